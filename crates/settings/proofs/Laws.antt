@@ -1,0 +1,48 @@
+-- The order of the tests of a settings record, and CR3 against the width.
+use Prim.Native.Nat.{ℕ, _/_, _^_, _<_, _≤_}
+use native.Mathlib.Decide.{decLt}
+use native.Mathlib.Nat.{div-eq-of-lt, lt-irrefl, lt-of-lt-of-le, div-lt-iff-lt-mul, one-mul}
+use native.Mathlib.Omega.{arith}
+use mathlib.Core.Path.{_≡_, refl, sym, _∙_}
+use mathlib.Core.Bool.{Bool, true, false, not, _&&_, _||_, cond}
+use borrow.Author.Tests.{lt-ltb, le-ltb, eq-eqb, ne-eqb}
+use lib.Dec.{eqb, ltb}
+use lib.Pow.{pow-pos}
+use Rattle.settings.specs.declared.Service.{Service}
+use Rattle.settings.specs.declared.Service.the-variants.{Served, NotServed}
+
+-- what the five tests answer
+abbrev pub answer : Bool → Bool → Bool → Bool → Bool → Service
+answer width root pg mode extensions = cond (width && (root && (not pg || (mode && extensions)))) Served NotServed
+
+module _ (width root pg mode extensions : Bool) where
+  pub no-width : width ≡ false → NotServed ≡ answer width root pg mode extensions
+  no-width a = rw a
+
+  pub no-root : width ≡ true → root ≡ false → NotServed ≡ answer width root pg mode extensions
+  no-root a b = rw (a, b)
+
+  pub off : width ≡ true → root ≡ true → pg ≡ false → Served ≡ answer width root pg mode extensions
+  off a b c = rw (a, b, c)
+
+  pub no-mode : width ≡ true → root ≡ true → pg ≡ true → mode ≡ false → NotServed ≡ answer width root pg mode extensions
+  no-mode a b c d = rw (a, b, c, d)
+
+  pub no-extensions : width ≡ true → root ≡ true → pg ≡ true → mode ≡ true → extensions ≡ false
+      → NotServed ≡ answer width root pg mode extensions
+  no-extensions a b c d e = rw (a, b, c, d, e)
+
+  pub on : width ≡ true → root ≡ true → pg ≡ true → mode ≡ true → extensions ≡ true
+      → Served ≡ answer width root pg mode extensions
+  on a b c d e = rw (a, b, c, d, e)
+
+-- a number has nothing from bit k on exactly where it is below 2^k
+pub shifted-out : (n k : ℕ) → eqb (n / 2 ^ k) 0 ≡ ltb n (2 ^ k)
+shifted-out n k = go (decLt n (2 ^ k))
+  where
+    go : Dec (n < 2 ^ k) → eqb (n / 2 ^ k) 0 ≡ ltb n (2 ^ k)
+    go (yes small) = eq-eqb _ 0 (div-eq-of-lt small) ∙ sym (lt-ltb n (2 ^ k) small)
+    go (no large) = ne-eqb _ 0 (λ gone. large (below gone)) ∙ sym (le-ltb n (2 ^ k) (omega arith))
+      where
+        below : n / 2 ^ k ≡ 0 → n < 2 ^ k
+        below gone = rw one-mul at (div-lt-iff-lt-mul {k = 2 ^ k} {x = n} {y = 1} (pow-pos k) .0 (omega arith))

@@ -1,0 +1,62 @@
+-- "Settings": the record's named bits, what is served, the root.
+use Prim.Native.Nat.{ℕ, _*_, _/_, _^_}
+use mathlib.Core.Bool.{Bool, true, false, not, _&&_, _||_, cond}
+use lib.Dec.{eqb, leb, ltb}
+use Rattle.word.specs.Bits.{bit, field}
+use Rattle.settings.specs.declared.Settings.{Settings}
+use Rattle.settings.specs.declared.Service.{Service}
+use Rattle.settings.specs.declared.Service.the-variants.{Served, NotServed}
+
+-- "Used bits: CR0 PE 0, WP 16, PG 31; CR4 PAE 5, PGE 7; EFER LME 8, NXE 11"
+abbrev pub pe : Settings → Bool
+pe s = bit (s .cr0) 0
+
+abbrev pub wp : Settings → Bool
+wp s = bit (s .cr0) 16
+
+abbrev pub pg : Settings → Bool
+pg s = bit (s .cr0) 31
+
+abbrev pub pae : Settings → Bool
+pae s = bit (s .cr4) 5
+
+abbrev pub pge : Settings → Bool
+pge s = bit (s .cr4) 7
+
+abbrev pub lme : Settings → Bool
+lme s = bit (s .efer) 8
+
+abbrev pub nxe : Settings → Bool
+nxe s = bit (s .efer) 11
+
+-- "all registers 0 and M = 40"
+abbrev pub initial : Settings
+initial = record { cr0 = 0; cr3 = 0; cr4 = 0; efer = 0; width = 40 }
+
+-- "M from 32 to 52"
+abbrev pub widthServed : Settings → Bool
+widthServed s = leb 32 (s .width) && leb (s .width) 52
+
+-- "CR3 below 2^M"
+abbrev pub rootServed : Settings → Bool
+rootServed s = ltb (s .cr3) (2 ^ s .width)
+
+-- "when PG = 1, PE = PAE = LME = 1"
+abbrev pub modeServed : Settings → Bool
+modeServed s = pe s && (pae s && lme s)
+
+-- "and CR4 bits 12, 17 and 20 to 24 clear"
+abbrev pub extensionsServed : Settings → Bool
+extensionsServed s = not (bit (s .cr4) 12) && (not (bit (s .cr4) 17) && eqb (field (s .cr4) 20 5) 0)
+
+-- "With PG = 0 no other bit is tested."
+abbrev pub served : Settings → Bool
+served s = widthServed s && (rootServed s && (not (pg s) || (modeServed s && extensionsServed s)))
+
+-- what is answered of a settings record
+abbrev pub judged : Settings → Service
+judged s = cond (served s) Served NotServed
+
+-- "The low 12 bits of CR3 do not count; the rest is the root."
+abbrev pub root : Settings → ℕ
+root s = s .cr3 / 4096 * 4096

@@ -1,0 +1,145 @@
+// The settings record: control registers and physical width, its named bits, and what is served.
+use word::bits::bit;
+use word::bits::field;
+ghost use mathlib.Core.Path.{_≡_};
+ghost use Rattle.settings.specs.Settings as spec;
+
+// CR0, CR3, CR4, EFER and the physical width M.
+pub struct Settings {
+    pub cr0: u64,
+    pub cr3: u64,
+    pub cr4: u64,
+    pub efer: u64,
+    pub width: u64,
+}
+
+// Whether a settings record is served.
+pub enum Service {
+    Served,
+    NotServed,
+}
+
+impl Settings {
+    // The bits used, by the chapter's names.
+    pub const PE: u64 = 0;
+
+    pub const WP: u64 = 16;
+
+    pub const PG: u64 = 31;
+
+    pub const PAE: u64 = 5;
+
+    pub const PGE: u64 = 7;
+
+    pub const LME: u64 = 8;
+
+    pub const NXE: u64 = 11;
+
+    // The record with all registers 0 and M = 40.
+    pub fn initial() -> Settings
+        ensures { λ r. ⌜ r ≡ spec.initial ⌝ }
+    {
+        Settings {
+            cr0: 0,
+            cr3: 0,
+            cr4: 0,
+            efer: 0,
+            width: 40,
+        }
+    }
+
+    // Whether paging is on.
+    pub fn pg(self) -> bool
+        ensures { λ r. ⌜ r ≡ spec.pg self ⌝ }
+    {
+        bit(self.cr0, Settings::PG)
+    }
+
+    // Whether supervisor writes heed R/W.
+    pub fn wp(self) -> bool
+        ensures { λ r. ⌜ r ≡ spec.wp self ⌝ }
+    {
+        bit(self.cr0, Settings::WP)
+    }
+
+    // Whether places keep G.
+    pub fn pge(self) -> bool
+        ensures { λ r. ⌜ r ≡ spec.pge self ⌝ }
+    {
+        bit(self.cr4, Settings::PGE)
+    }
+
+    // Whether XD forbids fetches.
+    pub fn nxe(self) -> bool
+        ensures { λ r. ⌜ r ≡ spec.nxe self ⌝ }
+    {
+        bit(self.efer, Settings::NXE)
+    }
+
+    // The root: CR3 without its low 12 bits.
+    pub fn root(self) -> u64
+        ensures { λ r. ⌜ r ≡ spec.root self ⌝ }
+    {
+        self.cr3 / 4096 * 4096
+    }
+
+    // Whether M is from 32 to 52.
+    fn width_served(self) -> bool
+        ensures { λ r. ⌜ r ≡ spec.widthServed self ⌝ }
+    {
+        (32 <= self.width) & (self.width <= 52)
+    }
+
+    // Whether CR3 is below 2^M.
+    fn root_served(self) -> bool
+        ensures { λ r. ⌜ r ≡ spec.rootServed self ⌝ }
+    {
+        let width = self.width;
+        if 64 <= width {
+            return true;
+        }
+        self.cr3 >> width == 0
+    }
+
+    // Whether PE, PAE and LME are set.
+    fn mode_served(self) -> bool
+        ensures { λ r. ⌜ r ≡ spec.modeServed self ⌝ }
+    {
+        let pe = bit(self.cr0, Settings::PE);
+        let pae = bit(self.cr4, Settings::PAE);
+        let lme = bit(self.efer, Settings::LME);
+        pe & (pae & lme)
+    }
+
+    // Whether CR4 bits 12, 17 and 20 to 24 are clear.
+    fn extensions_served(self) -> bool
+        ensures { λ r. ⌜ r ≡ spec.extensionsServed self ⌝ }
+    {
+        let five_levels = bit(self.cr4, 12);
+        let spaces = bit(self.cr4, 17);
+        let later = field(self.cr4, 20, 5);
+        !five_levels & (!spaces & (later == 0))
+    }
+
+    // What is served, tested in the order width, root, mode, extensions.
+    pub fn judge(self) -> Service
+        ensures { λ r. ⌜ r ≡ spec.judged self ⌝ }
+    {
+        if !self.width_served() {
+            return Service::NotServed;
+        }
+        if !self.root_served() {
+            return Service::NotServed;
+        }
+        if !self.pg() {
+            return Service::Served;
+        }
+        if !self.mode_served() {
+            return Service::NotServed;
+        }
+        if !self.extensions_served() {
+            return Service::NotServed;
+        }
+        Service::Served
+    }
+}
