@@ -14,9 +14,9 @@ eight-times b i = omega arith
 pub frame-address : (f o : ℕ) → f % 0x10_0000_0000_0000 * 4096 + o % 4096 ≡ (f * 4096 + o % 4096) % 2 ^ 64
 frame-address f o = omega arith
 
--- an entry of a table below 2^52 lies where the plain sum says
-pub entry-plain : (b : PhysAddr) (i : ℕ) → b .0 < 2 ^ 52 → i < 512 → entryAddress b i ≡ record { 0 = b .0 + 8 * i }
-entry-plain b i small index = ap (λ (x : ℕ). record { 0 = x }) (mod-eq-of-lt (omega arith))
+-- an entry whose address fits 64 bits lies where the plain sum says
+pub entry-plain : (b : PhysAddr) (i : ℕ) → b .0 + 8 * i < 2 ^ 64 → entryAddress b i ≡ record { 0 = b .0 + 8 * i }
+entry-plain b i small = ap (λ (x : ℕ). record { 0 = x }) (mod-eq-of-lt small)
 
 -- a sum that fits 64 bits is the plain sum
 pub plus-plain : (b : PhysAddr) (o : ℕ) → b .0 + o < 2 ^ 64 → plus b o ≡ record { 0 = b .0 + o }

@@ -1,0 +1,67 @@
+-- What an entry says at its level: "Entry bits" and "P clear at any level" of the walk.
+use Prim.Native.Nat.{ℕ, _+_, _-_, _*_, _^_}
+use mathlib.Core.Bool.{Bool, true, false, not, _&&_, _||_, cond}
+use lib.Bits.{bitAnd}
+use lib.Dec.{eqb, leb, ltb}
+use Rattle.word.specs.Bits.{bit, field}
+use Rattle.address.specs.declared.PhysAddr.{PhysAddr}
+use Rattle.address.specs.Address.{pageBits}
+use Rattle.entry.specs.declared.Says.{Says}
+use Rattle.entry.specs.declared.Says.the-variants.{Missing, Reserved, Table, Page}
+
+-- "PS at level 3 ends the walk ..., at level 2": the highest level at which a page can end
+abbrev pub largest : ℕ
+largest = 3
+
+-- the entry maps a page: at level 1 always, above by PS
+abbrev pub isPage : ℕ → ℕ → Bool
+isPage level entry = leb level 1 || bit entry 7
+
+-- "bits 51 to M must be clear"
+abbrev pub aboveWidth : ℕ → ℕ → Bool
+aboveWidth width entry = not (eqb (field entry width (52 - width)) 0)
+
+-- "and bit 63 when NXE = 0"
+abbrev pub executeDisabled : Bool → ℕ → Bool
+executeDisabled nxe entry = not nxe && bit entry 63
+
+-- "so must bit 7 at level 4"
+abbrev pub sizeTooLarge : ℕ → ℕ → Bool
+sizeTooLarge level entry = bit entry 7 && ltb largest level
+
+-- "bits 29:13 of a 1 GiB entry, bits 20:13 of a 2 MiB entry"
+abbrev pub insidePage : ℕ → ℕ → Bool
+insidePage level entry = isPage level entry && not (eqb (field entry 13 (pageBits level - 13)) 0)
+
+-- a present entry has a reserved bit set
+abbrev pub reserved : ℕ → Bool → ℕ → ℕ → Bool
+reserved width nxe level entry =
+    (aboveWidth width entry || executeDisabled nxe entry) || (sizeTooLarge level entry || insidePage level entry)
+
+-- "Bits 51:12 hold the next table"
+abbrev pub tableBase : ℕ → PhysAddr
+tableBase entry = record { 0 = field entry 12 40 * 2 ^ 12 }
+
+-- the base of a page: "bits 51:30", "bits 51:21", and bits 51:12 at level 1
+abbrev pub pageBase : ℕ → ℕ → PhysAddr
+pageBase level entry = record { 0 = field entry (pageBits level) (52 - pageBits level) * 2 ^ pageBits level }
+
+-- what an entry says at its level, by the tests' order
+abbrev pub told : Bool → Bool → Bool → ℕ → ℕ → Says
+told present reserved page level entry =
+    cond present (cond reserved Reserved (cond page (Page (pageBase level entry)) (Table (tableBase entry)))) Missing
+
+-- what an entry says at its level, given the width and NXE
+abbrev pub says : ℕ → Bool → ℕ → ℕ → Says
+says width nxe level entry = told (bit entry 0) (reserved width nxe level entry) (isPage level entry) level entry
+
+-- the bits reserved in every entry, as a mask
+abbrev pub forbidden : ℕ → Bool → ℕ
+forbidden width nxe = (2 ^ 52 - 2 ^ width) + cond nxe 0 (2 ^ 63)
+
+-- the same as says, with the bits reserved in every entry given as a mask
+abbrev pub under : ℕ → ℕ → ℕ → Says
+under mask level entry =
+    told (bit entry 0) (not (eqb (bitAnd entry mask) 0) || (sizeTooLarge level entry || insidePage level entry)) (isPage level entry)
+    level
+    entry

@@ -1,0 +1,15 @@
+// One table entry: reading it, what it says at its level, its rights, marking it.
+pub mod mark;
+pub mod meaning;
+pub mod read;
+pub mod rights;
+
+use address::PhysAddr;
+
+// What an entry says at its level.
+pub enum Says {
+    Missing,
+    Reserved,
+    Table(PhysAddr),
+    Page(PhysAddr),
+}

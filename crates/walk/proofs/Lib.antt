@@ -1,0 +1,3 @@
+pub mod Asking
+pub mod Laws
+pub mod Top

@@ -1,0 +1,13 @@
+-- `walk::needs_fetch` meets its contract.
+use borrow.Author.Needs.{needs}
+use Rattle.walk.proofs.walk.needs_fetch.Statement.{statement}
+use Rattle.walk.proofs.walk.needs_fetch.Tie as tie
+
+nxe-requires : tie.Need-nxe-requires
+nxe-requires c κs = search needs
+
+returns : tie.Need-returns
+returns c = rw (c .before .nxe .ensures)
+
+pub needs-fetch-spec : {M : Type 1} → statement M
+needs-fetch-spec = tie.close (tie.spec nxe-requires returns)

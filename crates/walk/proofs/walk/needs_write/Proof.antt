@@ -1,0 +1,13 @@
+-- `walk::needs_write` meets its contract.
+use borrow.Author.Needs.{needs}
+use Rattle.walk.proofs.walk.needs_write.Statement.{statement}
+use Rattle.walk.proofs.walk.needs_write.Tie as tie
+
+wp-requires : tie.Need-wp-requires
+wp-requires c κs = search needs
+
+returns : tie.Need-returns
+returns c = rw (c .before .before .wp .ensures)
+
+pub needs-write-spec : {M : Type 1} → statement M
+needs-write-spec = tie.close (tie.spec wp-requires returns)

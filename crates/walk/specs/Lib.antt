@@ -1,0 +1,5 @@
+pub mod Access
+pub mod Descent
+pub mod Path
+pub mod Translate
+pub mod Walk

@@ -1,0 +1,63 @@
+// The four-level walk, and one uncached translation.
+use address::PhysAddr;
+
+mod descend;
+pub mod translate;
+pub mod walk;
+
+// How memory is asked: a read is neither a write nor a fetch.
+pub struct Access {
+    pub write: bool,
+    pub fetch: bool,
+    pub user: bool,
+}
+
+// What a walk that succeeds finds: the page's base, its last entry as read, the rights of all entries, its size and the entries read.
+pub struct Mapping {
+    pub base: PhysAddr,
+    pub last: u64,
+    pub rights: u64,
+    pub size: u64,
+    pub reads: u64,
+}
+
+// Why a walk ends in a page fault, with the level to report.
+pub enum Cause {
+    Missing(u64),
+    Reserved(u64),
+    Rights(u64),
+}
+
+// How a walk ends; a fault and an entry outside memory tell the entries read last.
+pub enum Walked {
+    Mapped(Mapping),
+    Refused(Cause, u64),
+    Outside(PhysAddr, u64, u64),
+}
+
+// What the tests before a walk find.
+pub enum Asked {
+    Unknown,
+    NotServed,
+    Form,
+    Off(PhysAddr),
+    On(Access),
+}
+
+// What a call is answered: address and size, or address and level, or code and level, each with the entries read.
+pub enum Answer {
+    Done(PhysAddr, u64, u64),
+    Unknown,
+    NotServed,
+    Form,
+    Outside(PhysAddr, u64, u64),
+    Fault(u64, u64, u64),
+}
+
+// The four numbers of an answer.
+pub struct Numbers {
+    pub answer: u64,
+    pub value: u64,
+    pub detail: u64,
+    pub reads: u64,
+}

@@ -1,0 +1,189 @@
+// One uncached translation: the tests in order, the walk, the answer.
+use crate::Access;
+use crate::Answer;
+use crate::Asked;
+use crate::Cause;
+use crate::Numbers;
+use crate::Walked;
+use crate::walk::needs_fetch;
+use crate::walk::walk;
+use address::PhysAddr;
+use address::VirtAddr;
+use settings::Service;
+use settings::Settings;
+ghost use mathlib.Core.Bool.{cond};
+ghost use mathlib.Core.Path.{_≡_};
+ghost use Prim.Native.Nat.{_≤_};
+ghost use Rattle.walk.specs.Access.{accessOf};
+ghost use Rattle.walk.specs.Translate as spec;
+
+// What the tests 1, 2 and 3 find, in this order.
+pub fn ask(settings: Settings, address: VirtAddr, access: u64, mode: u64) -> Asked
+    ensures { λ r. ⌜ r ≡ spec.asked settings address access mode ⌝ }
+{
+    if 2 < access {
+        return Asked::Unknown;
+    }
+    if 1 < mode {
+        return Asked::Unknown;
+    }
+    let service = settings.judge();
+    match service {
+        Service::NotServed => Asked::NotServed,
+        Service::Served => {
+            if settings.pg() {
+                ask_on(address, access, mode)
+            } else {
+                ask_off(address)
+            }
+        }
+    }
+}
+
+// Paging on: the address must be canonical.
+fn ask_on(address: VirtAddr, access: u64, mode: u64) -> Asked
+    ensures { λ r. ⌜ r ≡ spec.askedOn address (accessOf access mode) ⌝ }
+{
+    if address.canonical() {
+        return Asked::On(Access {
+            write: access == 1,
+            fetch: access == 2,
+            user: mode == 1,
+        });
+    }
+    Asked::Form
+}
+
+// Paging off: an address below 2^32 is its own physical address.
+fn ask_off(address: VirtAddr) -> Asked
+    ensures { λ r. ⌜ r ≡ spec.askedOff address ⌝ }
+{
+    let plain = address.0;
+    if plain < 0x1_0000_0000 {
+        return Asked::Off(PhysAddr(plain));
+    }
+    Asked::Form
+}
+
+// A bit's weight, where the bit is set.
+fn weight(set: bool, value: u64) -> u64
+    ensures { λ r. ⌜ (r ≡ cond set value 0) × (r ≤ value) ⌝ }
+{
+    if set {
+        return value;
+    }
+    0
+}
+
+// A number from the bits of an error code.
+fn code_of(present: bool, write: bool, user: bool, reserved: bool, fetch: bool) -> u64
+    ensures { λ r. ⌜ r ≡ spec.codeOf present write user reserved fetch ⌝ }
+{
+    let high = weight(reserved, 8) + weight(fetch, 16);
+    weight(present, 1) + (weight(write, 2) + (weight(user, 4) + high))
+}
+
+// The error code of a page fault.
+pub fn code(settings: Settings, access: Access, cause: Cause) -> u64
+    ensures { λ r. ⌜ r ≡ spec.code settings access cause ⌝ }
+{
+    let fetch = needs_fetch(settings, access);
+    match cause {
+        Cause::Missing(_) => code_of(false, access.write, access.user, false, fetch),
+        Cause::Reserved(_) => code_of(true, access.write, access.user, true, fetch),
+        Cause::Rights(_) => code_of(true, access.write, access.user, false, fetch),
+    }
+}
+
+// What a walk is answered.
+pub fn answer(settings: Settings, address: VirtAddr, access: Access, walked: Walked) -> Answer
+    ensures { λ r. ⌜ r ≡ spec.answered settings address access walked ⌝ }
+{
+    match walked {
+        Walked::Mapped(m) => {
+            let base = m.base;
+            let offset = address.offset(m.size);
+            Answer::Done(base.plus(offset), m.size, m.reads)
+        }
+        Walked::Refused(cause, reads) => {
+            let code = code(settings, access, cause);
+            Answer::Fault(code, cause_level(cause), reads)
+        }
+        Walked::Outside(at, level, reads) => Answer::Outside(at, level, reads),
+    }
+}
+
+// The level that a cause reports.
+fn cause_level(cause: Cause) -> u64
+    ensures { λ r. ⌜ r ≡ spec.causeLevel cause ⌝ }
+{
+    match cause {
+        Cause::Missing(level) => level,
+        Cause::Reserved(level) => level,
+        Cause::Rights(level) => level,
+    }
+}
+
+// One uncached translation.
+pub fn translate(
+    memory: &mut [u8],
+    settings: Settings,
+    address: VirtAddr,
+    access: u64,
+    mode: u64,
+) -> Answer
+    ensures { λ r. ⌜ (r ≡ spec.translated settings address access mode (now (memory .entry))) × (now (memory .exit) ≡ spec.translatedMemory settings address access mode (now (memory .entry))) ⌝ }
+{
+    let asked = ask(settings, address, access, mode);
+    match asked {
+        Asked::Unknown => Answer::Unknown,
+        Asked::NotServed => Answer::NotServed,
+        Asked::Form => Answer::Form,
+        Asked::Off(at) => Answer::Done(at, 0, 0),
+        Asked::On(a) => {
+            let walked = walk(memory, settings, address, a);
+            answer(settings, address, a, walked)
+        }
+    }
+}
+
+// The four numbers of an answer.
+pub fn numbers(answer: Answer) -> Numbers
+    ensures { λ r. ⌜ r ≡ spec.numbers answer ⌝ }
+{
+    match answer {
+        Answer::Done(at, size, reads) => Numbers {
+            answer: 0,
+            value: at.0,
+            detail: size,
+            reads,
+        },
+        Answer::Unknown => refusal(1),
+        Answer::NotServed => refusal(2),
+        Answer::Form => refusal(3),
+        Answer::Outside(at, level, reads) => Numbers {
+            answer: 4,
+            value: at.0,
+            detail: level,
+            reads,
+        },
+        Answer::Fault(code, level, reads) => Numbers {
+            answer: 5,
+            value: code,
+            detail: level,
+            reads,
+        },
+    }
+}
+
+// The numbers of a refusal that tells nothing more.
+pub fn refusal(answer: u64) -> Numbers
+    ensures { λ r. ⌜ r ≡ spec.refusal answer ⌝ }
+{
+    Numbers {
+        answer,
+        value: 0,
+        detail: 0,
+        reads: 0,
+    }
+}
