@@ -1,11 +1,12 @@
 -- What the code's steps give: places put in front, places kept by flags, the places looked at so far, the sets rewritten so far.
 use Prim.Native.Nat.{ℕ, zero, suc, _+_, _<_}
+use native.Mathlib.Decide.{decLt}
 use native.Mathlib.Numerals.{add-one}
 use native.Mathlib.Omega.{arith}
 use mathlib.Core.Path.{_≡_, refl, sym, ap, _∙_}
 use mathlib.Core.Bool.{Bool, true, false, _&&_}
 use mathlib.Core.List.{List, [], _∷_, _++_, append-nil, append-assoc}
-use lib.ListN.{length, getD, set, drop, length-append, drop-of-length-le}
+use lib.ListN.{length, getD, set, drop, length-append, drop-of-length-le, List·getD-append}
 use lib.Seq.{drop-cons, getD-at, set-at}
 use Rattle.cache.specs.declared.Place.{Place}
 use Rattle.cache.specs.declared.Set.{Set}
@@ -120,6 +121,18 @@ look-miss i w s k h {filled} {serving} a b t =
 pub setsBelow-length : (n : ℕ) (f : ℕ → Set) → length (setsBelow n f) ≡ n
 setsBelow-length zero f = refl
 setsBelow-length (suc n) f = length-append (setsBelow n f) (f n ∷ []) ∙ (omega (arith, setsBelow-length n f))
+
+-- each stands at its number
+pub setsBelow-at : (n : ℕ) (f : ℕ → Set) (j : ℕ) (d : Set) → j < n → getD (setsBelow n f) j d ≡ f j
+setsBelow-at zero f j d h = absurd (omega arith)
+setsBelow-at (suc n) f j d h = go (decLt j n) (setsBelow-at n f j d)
+  where
+    go : Dec (j < n) → (j < n → getD (setsBelow n f) j d ≡ f j) → getD (setsBelow n f ++ (f n ∷ [])) j d ≡ f j
+    go (yes less) below = List·getD-append (setsBelow n f) (f n ∷ []) d j (omega (arith, setsBelow-length n f)) ∙ below less
+    go (no last) below =
+        let same : j ≡ n = omega arith in
+        ap (λ (k : ℕ). getD (setsBelow n f ++ (f n ∷ [])) k d) same
+        ∙ getD-at (setsBelow n f) (f n) [] d n (setsBelow-length n f) ∙ ap f (sym same)
 
 -- the sets rewritten below a number, and those from there on as they were
 abbrev pub rewritten : (ℕ → Set → Set) → Cache → ℕ → List Set

@@ -8,11 +8,15 @@ use Rattle.cache.specs.declared.Cache.{Cache}
 use Rattle.cache.specs.declared.Wanted.{Wanted}
 use Rattle.cache.specs.declared.Found.{Found}
 use Rattle.cache.specs.Places.{setIndex}
-use Rattle.cache.specs.Sets.{emptySet, findIn, fillSet, dropSet, rootSet}
+use Rattle.cache.specs.Sets.{emptySet, filled, findIn, fillSet, dropSet, rootSet}
 
 -- a cache's set of a number; past the end a set with no places
 abbrev pub setAt : ℕ → Cache → Set
 setAt i c = getD (c .sets) i (record { places = [] })
+
+-- what a cache holds in the set of a number
+abbrev pub held : ℕ → Cache → List Place
+held i c = filled i (setAt i c)
 
 -- "rewrites its own set only"
 abbrev pub rewriteSet : ℕ → (Set → Set) → Cache → Cache
