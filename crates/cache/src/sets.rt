@@ -18,8 +18,8 @@ impl Set {
     }
 
     // The set with a place in front where it is kept; the fifth falls out.
-    fn pick(self, kept: bool, place: Place) -> Set
-        ensures { λ r. ⌜ r ≡ spec.setOf (spec.pick kept place (self .places)) ⌝ }
+    fn pick(self, kept: bool, front: Place) -> Set
+        ensures { λ r. ⌜ r ≡ spec.setOf (spec.pick kept front (self .places)) ⌝ }
     {
         let a = self.places[0];
         let b = self.places[1];
@@ -27,7 +27,7 @@ impl Set {
         let d = self.places[3];
         if kept {
             return Set {
-                places: [place, a, b, c],
+                places: [front, a, b, c],
             };
         }
         Set {
