@@ -21,11 +21,6 @@ abbrev pub Each : (Place → Bool) → List Place → Type 0
 Each test [] = Unit
 Each test (p ∷ ps) = (test p ≡ true) × Each test ps
 
--- a case of a Bool, with its equation
-pub by-cases {ℓ} : {X : Type ℓ} (b : Bool) → (b ≡ true → X) → (b ≡ false → X) → X
-by-cases true holds fails = holds refl
-by-cases false holds fails = fails refl
-
 -- both parts of a test that holds
 pub and-true : (a b : Bool) → (a && b) ≡ true → (a ≡ true) × (b ≡ true)
 and-true true b h = (refl, h)
@@ -68,15 +63,6 @@ each-take test (suc n) (p ∷ ps) h = (h .0, each-take test n ps (h .1))
 pub keep-each : (test : Place → Bool) (ps : List Place) → Each test ps → keep test ps ≡ ps
 keep-each test [] h = refl
 keep-each test (p ∷ ps) h = rw (h .0, keep-each test ps (h .1))
-
--- where no place passes, a filter keeps none
-pub keep-none : (test : Place → Bool) (ps : List Place) → Each (λ p. not (test p)) ps → keep test ps ≡ []
-keep-none test [] h = refl
-keep-none test (p ∷ ps) h = go (test p) (h .0) (keep-none test ps (h .1))
-  where
-    go : (b : Bool) → not b ≡ true → keep test ps ≡ [] → pick b p (keep test ps) ≡ []
-    go true e rest = cc
-    go false e rest = rest
 
 -- a weaker test passes too
 pub each-weaker : (f g : Place → Bool) → ((p : Place) → f p ≡ true → g p ≡ true) → (ps : List Place) → Each f ps → Each g ps

@@ -51,6 +51,7 @@ unfoldable pub findIn : ℕ → Wanted → Set → Found
 findIn i w s = firstServing w (filled i s)
 
 -- "removes all places with that tag from the set, closes gaps in order, and puts the new one first"
+-- (a new place that is not filled in its set would stand in front and read as empty; callers fill none such)
 unfoldable pub fillSet : ℕ → Place → Set → Set
 fillSet i p s = setOf (p ∷ keep (spares p) (filled i s))
 
