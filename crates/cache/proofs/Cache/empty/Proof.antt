@@ -1,0 +1,13 @@
+-- `Cache::empty` meets its contract.
+use borrow.Author.Needs.{needs}
+use Rattle.cache.proofs.Cache.empty.Statement.{statement}
+use Rattle.cache.proofs.Cache.empty.Tie as tie
+
+empty-requires : tie.Need-empty-requires
+empty-requires c κs = search needs
+
+returns : tie.Need-returns
+returns c = rw (c .empty .ensures)
+
+pub empty-spec : {M : Type 1} → statement M
+empty-spec = tie.close (tie.spec empty-requires returns)

@@ -1,0 +1,313 @@
+-- The laws of the cache that other crates cite: of one place, of one set, of the whole.
+use Prim.Native.Nat.{ℕ, _^_, _<_, _≤_}
+use native.Mathlib.Decide.{decLt, ℕ-discrete}
+use native.Mathlib.Omega.{arith}
+use mathlib.Core.Path.{_≡_, refl, sym, ap, _∙_}
+use mathlib.Core.Bool.{Bool, true, false, not, _&&_}
+use mathlib.Core.List.{List, [], _∷_, List·Memᴰ}
+use borrow.Author.Tests.{ltb-true, leb-true, eqb-true, lt-ltb, le-leb, eq-eqb, ne-eqb}
+use lib.Dec.{eqb, ltb, leb}
+use lib.ListN.{length, take, length-set, getD-replicate, List·getD-eq-default}
+use lib.Seq.{take-all, getD-set-same, getD-set-other}
+use Rattle.cache.specs.declared.Place.{Place}
+use Rattle.cache.specs.declared.Set.{Set}
+use Rattle.cache.specs.declared.Cache.{Cache}
+use Rattle.cache.specs.declared.Wanted.{Wanted}
+use Rattle.cache.specs.declared.Found.the-variants.{At, Nothing}
+use Rattle.cache.specs.Places.{zeroPlace, setIndex, filledIn, otherTag, spares, stays, given, serves}
+use Rattle.cache.specs.Sets.{keep, four, setOf, emptySet, filled, firstServing, findIn, fillSet, dropSet, rootSet}
+use Rattle.cache.specs.Whole.{setAt, held, rewriteSet, rewriteAll, emptyCache, findCache, fillCache, dropPage, loadRoot}
+use Rattle.cache.proofs.Steps.{setsBelow-length, setsBelow-at}
+use Rattle.cache.proofs.Lists.{Each, and-true, each-keep, each-kept, each-member, each-weaker, keep-each, keep-length, keep-four, first-serves, none-serves, none-found}
+
+-- One place.
+
+-- what a filled place has
+pub record Filled (i : ℕ) (p : Place) : Type 0 where
+  pub is-marked : p .marked ≡ true
+  pub tag-below : p .tag < 2 ^ 52
+  pub own-set : setIndex (p .tag) ≡ i
+  pub frame-below : p .frame .0 < 2 ^ 40
+  pub size-from : 1 ≤ p .size
+  pub size-to : p .size ≤ 3
+
+pub filled-has : (i : ℕ) (p : Place) → filledIn i p ≡ true → Filled i p
+unfolding filledIn
+filled-has i p h =
+    let a = and-true (p .marked) _ h in
+    let b = and-true (ltb (p .tag) (2 ^ 52) && eqb (setIndex (p .tag)) i) _ (a .1) in
+    let c = and-true (ltb (p .tag) (2 ^ 52)) _ (b .0) in
+    let d = and-true (ltb (p .frame .0) (2 ^ 40)) _ (b .1) in
+    let e = and-true (leb 1 (p .size)) _ (d .1) in
+    record {
+      is-marked = a .0;
+      tag-below = ltb-true (p .tag) (2 ^ 52) (c .0);
+      own-set = eqb-true (setIndex (p .tag)) i (c .1);
+      frame-below = ltb-true (p .frame .0) (2 ^ 40) (d .0);
+      size-from = leb-true 1 (p .size) (e .0);
+      size-to = leb-true (p .size) 3 (e .1);
+    }
+
+pub has-filled : (i : ℕ) (p : Place) → Filled i p → filledIn i p ≡ true
+unfolding filledIn
+has-filled i p h =
+    rw (
+      h .is-marked,
+      lt-ltb (p .tag) (2 ^ 52) (h .tag-below),
+      eq-eqb (setIndex (p .tag)) i (h .own-set),
+      lt-ltb (p .frame .0) (2 ^ 40) (h .frame-below),
+      le-leb 1 (p .size) (h .size-from),
+      le-leb (p .size) 3 (h .size-to),
+    )
+
+-- zeros are not filled
+pub zero-empty : (i : ℕ) → filledIn i zeroPlace ≡ false
+unfolding filledIn
+zero-empty i = refl
+
+-- a drop of a tag takes the places of that tag, and no other
+pub drop-takes : (t : ℕ) (p : Place) → p .tag ≡ t → otherTag t p ≡ false
+unfolding otherTag
+drop-takes t p e = ap not (eq-eqb (p .tag) t e)
+
+pub drop-leaves : (t : ℕ) (p : Place) → (p .tag ≡ t → ⊥) → otherTag t p ≡ true
+unfolding otherTag
+drop-leaves t p e = ap not (ne-eqb (p .tag) t e)
+
+-- a fill takes the places of its tag, and no other
+pub fill-takes : (new p : Place) → p .tag ≡ new .tag → spares new p ≡ false
+unfolding spares
+fill-takes new p e = drop-takes (new .tag) p e
+
+pub fill-leaves : (new p : Place) → (p .tag ≡ new .tag → ⊥) → spares new p ≡ true
+unfolding spares
+fill-leaves new p e = drop-leaves (new .tag) p e
+
+-- a root load takes the places without G, and no other
+pub root-takes : (p : Place) → stays p ≡ p .global
+unfolding stays
+root-takes p = refl
+
+-- what a place that serves has
+pub record Serves (w : Wanted) (p : Place) : Type 0 where
+  pub same-tag : p .tag ≡ w .tag
+  pub has-write : given (w .write) (p .write) ≡ true
+  pub has-user : given (w .user) (p .user) ≡ true
+  pub has-fetch : given (w .fetch) (p .fetch) ≡ true
+  pub has-dirty : given (w .dirty) (p .dirty) ≡ true
+
+pub serves-has : (w : Wanted) (p : Place) → serves w p ≡ true → Serves w p
+unfolding serves
+serves-has w p h =
+    let a = and-true (eqb (p .tag) (w .tag)) _ h in
+    let b = and-true (given (w .write) (p .write) && given (w .user) (p .user)) _ (a .1) in
+    let c = and-true (given (w .write) (p .write)) _ (b .0) in
+    let d = and-true (given (w .fetch) (p .fetch)) _ (b .1) in
+    record {
+      same-tag = eqb-true (p .tag) (w .tag) (a .0);
+      has-write = c .0;
+      has-user = c .1;
+      has-fetch = d .0;
+      has-dirty = d .1;
+    }
+
+pub has-serves : (w : Wanted) (p : Place) → Serves w p → serves w p ≡ true
+unfolding serves
+has-serves w p h = rw (eq-eqb (p .tag) (w .tag) (h .same-tag), h .has-write, h .has-user, h .has-fetch, h .has-dirty)
+
+-- a place of another tag does not serve
+pub other-serves-not : (w : Wanted) (p : Place) → otherTag (w .tag) p ≡ true → not (serves w p) ≡ true
+unfolding otherTag serves
+other-serves-not w p h = go (eqb (p .tag) (w .tag)) _ h
+  where
+    go : (b rest : Bool) → not b ≡ true → not (b && rest) ≡ true
+    go true rest e = cc
+    go false rest e = refl
+
+-- One set.
+
+-- what a set holds is filled
+pub filled-places : (i : ℕ) (s : Set) → Each (filledIn i) (filled i s)
+unfolding filled
+filled-places i s = each-keep (filledIn i) (four (s .places))
+
+pub filled-place : (i : ℕ) (s : Set) {p : Place} → List·Memᴰ p (filled i s) → filledIn i p ≡ true
+filled-place i s m = each-member (filledIn i) m (filled-places i s)
+
+-- a set holds four places at most
+pub filled-length : (i : ℕ) (s : Set) → length (filled i s) ≤ 4
+unfolding filled
+filled-length i s = keep-length (filledIn i) (four (s .places))
+
+-- a set that is made of filled places holds the first four of them
+pub filled-made : (i : ℕ) (ps : List Place) → Each (filledIn i) ps → filled i (setOf ps) ≡ take 4 ps
+unfolding filled
+filled-made i ps h = keep-four (filledIn i) (zero-empty i) ps h
+
+-- a drop leaves what its test keeps, whatever the test
+pub filled-kept : (i : ℕ) (test : Place → Bool) (s : Set) → filled i (setOf (keep test (filled i s))) ≡ keep test (filled i s)
+filled-kept i test s =
+    filled-made i (keep test (filled i s)) (each-kept (filledIn i) test (filled i s) (filled-places i s))
+    ∙ take-all 4 (keep test (filled i s)) (omega (arith, keep-length test (filled i s), filled-length i s))
+
+-- what a set holds after each change
+pub filled-empty : (i : ℕ) → filled i emptySet ≡ []
+filled-empty i = filled-made i [] tt
+
+pub filled-fill : (i : ℕ) (p : Place) (s : Set) → filledIn i p ≡ true → filled i (fillSet i p s) ≡ take 4 (p ∷ keep (spares p) (filled i s))
+unfolding fillSet
+filled-fill i p s h =
+    filled-made i (p ∷ keep (spares p) (filled i s)) (h, each-kept (filledIn i) (spares p) (filled i s) (filled-places i s))
+
+pub filled-drop : (i t : ℕ) (s : Set) → filled i (dropSet i t s) ≡ keep (otherTag t) (filled i s)
+unfolding dropSet
+filled-drop i t s = filled-kept i (otherTag t) s
+
+pub filled-root : (i : ℕ) (s : Set) → filled i (rootSet i s) ≡ keep stays (filled i s)
+unfolding rootSet
+filled-root i s = filled-kept i stays s
+
+-- a lookup goes by what the set holds
+pub find-held : (i : ℕ) (w : Wanted) (s : Set) → findIn i w s ≡ firstServing w (filled i s)
+unfolding findIn
+find-held i w s = refl
+
+pub find-same : (i : ℕ) (w : Wanted) (s t : Set) → filled i s ≡ filled i t → findIn i w s ≡ findIn i w t
+unfolding findIn
+find-same i w s t e = ap (firstServing w) e
+
+-- what a lookup finds is held, and serves
+pub find-serves : (i : ℕ) (w : Wanted) (s : Set) (p : Place) → findIn i w s ≡ At p → List·Memᴰ p (filled i s) × (serves w p ≡ true)
+unfolding findIn
+find-serves i w s p h = first-serves w (filled i s) p h
+
+-- where it finds nothing, nothing that is held serves
+pub find-none : (i : ℕ) (w : Wanted) (s : Set) → findIn i w s ≡ Nothing → Each (λ p. not (serves w p)) (filled i s)
+unfolding findIn
+find-none i w s h = none-serves w (filled i s) h
+
+-- the new place is found by what it serves
+pub find-new : (i : ℕ) (w : Wanted) (p : Place) (s : Set) → filledIn i p ≡ true → serves w p ≡ true → findIn i w (fillSet i p s) ≡ At p
+find-new i w p s h served = find-held i w (fillSet i p s) ∙ ap (firstServing w) (filled-fill i p s h) ∙ rw served
+
+-- after a drop of its tag nothing is found
+pub others-serve-not : (w : Wanted) (ps : List Place) → Each (λ p. not (serves w p)) (keep (otherTag (w .tag)) ps)
+others-serve-not w ps =
+    each-weaker (otherTag (w .tag)) (λ p. not (serves w p)) (other-serves-not w) (keep (otherTag (w .tag)) ps) (each-keep (otherTag (w .tag)) ps)
+
+pub find-dropped : (i : ℕ) (w : Wanted) (s : Set) → findIn i w (dropSet i (w .tag) s) ≡ Nothing
+find-dropped i w s =
+    find-held i w (dropSet i (w .tag) s) ∙ ap (firstServing w) (filled-drop i (w .tag) s) ∙ none-found w (keep (otherTag (w .tag)) (filled i s)) (others-serve-not w (filled i s))
+
+-- The whole cache. A cache has 16 sets, and every change leaves as many.
+
+abbrev pub Sixteen : Cache → Type 0
+Sixteen c = length (c .sets) ≡ 16
+
+pub empty-sixteen : Sixteen emptyCache
+empty-sixteen = refl
+
+pub one-sixteen : (i : ℕ) (change : Set → Set) (c : Cache) → Sixteen c → Sixteen (rewriteSet i change c)
+one-sixteen i change c h = length-set (c .sets) i _ ∙ h
+
+pub all-sixteen : (change : ℕ → Set → Set) (c : Cache) → Sixteen (rewriteAll change c)
+all-sixteen change c = setsBelow-length 16 (λ i. change i (setAt i c))
+
+pub fill-sixteen : (p : Place) (c : Cache) → Sixteen c → Sixteen (fillCache p c)
+unfolding fillCache
+fill-sixteen p c h = one-sixteen (setIndex (p .tag)) (fillSet (setIndex (p .tag)) p) c h
+
+pub drop-sixteen : (t : ℕ) (c : Cache) → Sixteen c → Sixteen (dropPage t c)
+unfolding dropPage
+drop-sixteen t c h = one-sixteen (setIndex t) (dropSet (setIndex t) t) c h
+
+pub root-sixteen : (c : Cache) → Sixteen (loadRoot c)
+unfolding loadRoot
+root-sixteen c = all-sixteen rootSet c
+
+-- a tag has one of the 16 sets
+pub index-below : (t : ℕ) → setIndex t < 16
+index-below t = omega arith
+
+-- a change of one set: that set, and every other
+pub own-set-at : (i : ℕ) (change : Set → Set) (c : Cache) → Sixteen c → i < 16 → setAt i (rewriteSet i change c) ≡ change (setAt i c)
+own-set-at i change c sixteen small = getD-set-same (c .sets) i _ _ (omega arith)
+
+pub other-set-at : (i j : ℕ) (change : Set → Set) (c : Cache) → (j ≡ i → ⊥) → setAt j (rewriteSet i change c) ≡ setAt j c
+other-set-at i j change c apart = getD-set-other (c .sets) i j _ _ apart
+
+-- a change of all sets: each set, and past the end none
+pub each-set-at : (change : ℕ → Set → Set) (c : Cache) (j : ℕ) → j < 16 → setAt j (rewriteAll change c) ≡ change j (setAt j c)
+each-set-at change c j small = setsBelow-at 16 (λ i. change i (setAt i c)) j _ small
+
+-- what is held has its own set's number
+pub held-own : (j : ℕ) (c : Cache) → Each (filledIn j) (held j c)
+held-own j c = filled-places j (setAt j c)
+
+-- past the end nothing is held
+pub held-past : (j : ℕ) (c : Cache) → length (c .sets) ≤ j → held j c ≡ []
+unfolding filled
+held-past j c past = ap (filled j) (List·getD-eq-default (c .sets) (record { places = [] }) past) ∙ filled-empty j
+
+-- what a cache holds after each change
+pub held-empty : (j : ℕ) → held j emptyCache ≡ []
+held-empty j = go (decLt j 16)
+  where
+    go : Dec (j < 16) → held j emptyCache ≡ []
+    go (yes small) = ap (filled j) (getD-replicate 16 j emptySet (record { places = [] }) small) ∙ filled-empty j
+    go (no large) = held-past j emptyCache (omega arith)
+
+pub held-fill : (p : Place) (c : Cache) → Sixteen c → filledIn (setIndex (p .tag)) p ≡ true
+    → held (setIndex (p .tag)) (fillCache p c) ≡ take 4 (p ∷ keep (spares p) (held (setIndex (p .tag)) c))
+unfolding fillCache
+held-fill p c sixteen h =
+    ap (filled (setIndex (p .tag))) (own-set-at (setIndex (p .tag)) (fillSet (setIndex (p .tag)) p) c sixteen (index-below (p .tag)))
+    ∙ filled-fill (setIndex (p .tag)) p (setAt (setIndex (p .tag)) c) h
+
+pub held-fill-other : (p : Place) (c : Cache) (j : ℕ) → (j ≡ setIndex (p .tag) → ⊥) → held j (fillCache p c) ≡ held j c
+unfolding fillCache
+held-fill-other p c j apart = ap (filled j) (other-set-at (setIndex (p .tag)) j (fillSet (setIndex (p .tag)) p) c apart)
+
+-- a page's places are in its own set alone
+none-elsewhere : (t j : ℕ) (c : Cache) → (j ≡ setIndex t → ⊥) → Each (otherTag t) (held j c)
+none-elsewhere t j c apart = each-weaker (filledIn j) (otherTag t) other (held j c) (held-own j c)
+  where
+    other : (p : Place) → filledIn j p ≡ true → otherTag t p ≡ true
+    other p h = drop-leaves t p (λ e. apart (sym (filled-has j p h .own-set) ∙ ap setIndex e))
+
+-- a page drop leaves in every set what is of another tag
+pub held-drop : (t : ℕ) (c : Cache) (j : ℕ) → Sixteen c → held j (dropPage t c) ≡ keep (otherTag t) (held j c)
+unfolding dropPage
+held-drop t c j sixteen = go (ℕ-discrete j (setIndex t))
+  where
+    go : Dec (j ≡ setIndex t) → held j (dropPage t c) ≡ keep (otherTag t) (held j c)
+    go (yes same) = rw same (ap (filled (setIndex t)) (own-set-at (setIndex t) (dropSet (setIndex t) t) c sixteen (index-below t)) ∙ filled-drop (setIndex t) t (setAt (setIndex t) c))
+    go (no apart) =
+        ap (filled j) (other-set-at (setIndex t) j (dropSet (setIndex t) t) c apart) ∙ sym (keep-each (otherTag t) (held j c) (none-elsewhere t j c apart))
+
+-- a root load leaves in every set what stays
+pub held-root : (c : Cache) (j : ℕ) → Sixteen c → held j (loadRoot c) ≡ keep stays (held j c)
+unfolding loadRoot
+held-root c j sixteen = go (decLt j 16)
+  where
+    go : Dec (j < 16) → held j (loadRoot c) ≡ keep stays (held j c)
+    go (yes small) = ap (filled j) (each-set-at rootSet c j small) ∙ filled-root j (setAt j c)
+    go (no large) = held-past j (loadRoot c) (omega arith) ∙ ap (keep stays) (sym (held-past j c (omega arith)))
+
+-- a lookup goes by what its tag's set holds
+pub find-cache : (w : Wanted) (c : Cache) → findCache w c ≡ firstServing w (held (setIndex (w .tag)) c)
+unfolding findCache findIn
+find-cache w c = refl
+
+-- the new place is found by what it serves
+pub find-filled : (w : Wanted) (p : Place) (c : Cache) → Sixteen c → filledIn (setIndex (p .tag)) p ≡ true → serves w p ≡ true
+    → findCache w (fillCache p c) ≡ At p
+find-filled w p c sixteen h served =
+    find-cache w (fillCache p c) ∙ ap (λ (t : ℕ). firstServing w (held (setIndex t) (fillCache p c))) (sym (serves-has w p served .same-tag))
+    ∙ ap (firstServing w) (held-fill p c sixteen h) ∙ rw served
+
+-- after a drop of its page nothing is found
+pub find-page-dropped : (w : Wanted) (c : Cache) → Sixteen c → findCache w (dropPage (w .tag) c) ≡ Nothing
+find-page-dropped w c sixteen =
+    find-cache w (dropPage (w .tag) c) ∙ ap (firstServing w) (held-drop (w .tag) c (setIndex (w .tag)) sixteen)
+    ∙ none-found w (keep (otherTag (w .tag)) (held (setIndex (w .tag)) c)) (others-serve-not w (held (setIndex (w .tag)) c))

@@ -1,0 +1,52 @@
+-- The cache: "16 sets of four places".
+use Prim.Native.Nat.{ℕ, zero, suc}
+use mathlib.Core.List.{List, [], _∷_, _++_}
+use lib.ListN.{getD, set, replicate}
+use Rattle.cache.specs.declared.Place.{Place}
+use Rattle.cache.specs.declared.Set.{Set}
+use Rattle.cache.specs.declared.Cache.{Cache}
+use Rattle.cache.specs.declared.Wanted.{Wanted}
+use Rattle.cache.specs.declared.Found.{Found}
+use Rattle.cache.specs.Places.{setIndex}
+use Rattle.cache.specs.Sets.{emptySet, filled, findIn, fillSet, dropSet, rootSet}
+
+-- a cache's set of a number; past the end a set with no places
+abbrev pub setAt : ℕ → Cache → Set
+setAt i c = getD (c .sets) i (record { places = [] })
+
+-- what a cache holds in the set of a number
+abbrev pub held : ℕ → Cache → List Place
+held i c = filled i (setAt i c)
+
+-- "rewrites its own set only"
+abbrev pub rewriteSet : ℕ → (Set → Set) → Cache → Cache
+rewriteSet i change c = record { sets = set (c .sets) i (change (setAt i c)) }
+
+-- the sets of the numbers below n
+abbrev pub setsBelow : ℕ → (ℕ → Set) → List Set
+setsBelow zero f = []
+setsBelow (suc n) f = setsBelow n f ++ (f n ∷ [])
+
+-- a root load rewrites "all sets"
+abbrev pub rewriteAll : (ℕ → Set → Set) → Cache → Cache
+rewriteAll change c = record { sets = setsBelow 16 (λ i. change i (setAt i c)) }
+
+-- "drops everything and leaves zeros"
+abbrev pub emptyCache : Cache
+emptyCache = record { sets = replicate 16 emptySet }
+
+-- a translation is looked up in the set of its tag
+unfoldable pub findCache : Wanted → Cache → Found
+findCache w c = findIn (setIndex (w .tag)) w (setAt (setIndex (w .tag)) c)
+
+-- a new place goes into the set of its tag
+unfoldable pub fillCache : Place → Cache → Cache
+fillCache p c = rewriteSet (setIndex (p .tag)) (fillSet (setIndex (p .tag)) p) c
+
+-- a page is dropped from the set of its tag
+unfoldable pub dropPage : ℕ → Cache → Cache
+dropPage t c = rewriteSet (setIndex t) (dropSet (setIndex t) t) c
+
+-- a root load goes over all sets
+unfoldable pub loadRoot : Cache → Cache
+loadRoot c = rewriteAll rootSet c

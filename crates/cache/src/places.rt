@@ -1,0 +1,68 @@
+// One place: when it counts as filled, and what each drop, fill and lookup asks of it.
+use crate::Cache;
+use crate::Place;
+use crate::Wanted;
+use address::Frame;
+ghost use mathlib.Core.Path.{_≡_};
+ghost use Rattle.cache.specs.Places as spec;
+
+impl Place {
+    // The place of all zeros.
+    pub fn empty() -> Place
+        ensures { λ r. ⌜ r ≡ spec.zeroPlace ⌝ }
+    {
+        Place {
+            tag: 0,
+            frame: Frame(0),
+            size: 0,
+            marked: false,
+            write: false,
+            user: false,
+            fetch: false,
+            dirty: false,
+            global: false,
+        }
+    }
+
+    // Whether the place counts as filled in a set.
+    pub fn filled_in(self, set: u64) -> bool
+        ensures { λ r. ⌜ r ≡ spec.filledIn set self ⌝ }
+    {
+        let own = Cache::set_of(self.tag);
+        let tag = (self.tag < 0x10_0000_0000_0000) & (own == set);
+        let size = (1 <= self.size) & (self.size <= 3);
+        self.marked & (tag & ((self.frame.0 < 0x100_0000_0000) & size))
+    }
+
+    // Whether the place is of another page: a drop of the tag leaves it.
+    pub fn other_than(self, tag: u64) -> bool
+        ensures { λ r. ⌜ r ≡ spec.otherTag tag self ⌝ }
+    {
+        self.tag != tag
+    }
+
+    // Whether a fill of a new place leaves this one.
+    pub fn spared_by(self, new: Place) -> bool
+        ensures { λ r. ⌜ r ≡ spec.spares new self ⌝ }
+    {
+        self.other_than(new.tag)
+    }
+
+    // Whether a root load leaves the place.
+    pub fn stays(self) -> bool
+        ensures { λ r. ⌜ r ≡ spec.stays self ⌝ }
+    {
+        self.global
+    }
+
+    // Whether the place has all that a translation wants.
+    pub fn serves(self, wanted: Wanted) -> bool
+        ensures { λ r. ⌜ r ≡ spec.serves wanted self ⌝ }
+    {
+        let write = !wanted.write | self.write;
+        let user = !wanted.user | self.user;
+        let fetch = !wanted.fetch | self.fetch;
+        let dirty = !wanted.dirty | self.dirty;
+        (self.tag == wanted.tag) & ((write & user) & (fetch & dirty))
+    }
+}
