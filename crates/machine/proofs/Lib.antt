@@ -1,0 +1,4 @@
+pub mod Loading
+pub mod Setwise
+pub mod Sizes
+pub mod Storing
