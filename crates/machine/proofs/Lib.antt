@@ -1,3 +1,4 @@
+pub mod Demand1
 pub mod Loading
 pub mod Setwise
 pub mod Sizes
