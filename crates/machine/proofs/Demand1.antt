@@ -51,7 +51,7 @@ module _ (m : Machine) (sixteen : length (m .cache .sets) ≡ 16) (memory : List
   module _ (address : VirtAddr) (access mode : ℕ) where
     walked-keeps : (a : Access) (p : Path) (w : Walked) → refused (answered (m .settings) address a w) ≡ true
         → Keeps m memory (translate address access mode)
-            (record { answer = answered (m .settings) address a w; machine = remembered m address a w; memory = after (a .write) p memory w })
+        (record { answer = answered (m .settings) address a w; machine = remembered m address a w; memory = after (a .write) p memory w })
     unfolding after
     walked-keeps a p (Walked.Mapped found) h = absurd (false≢true h)
     walked-keeps a p (Walked.Refused cause n) h =
@@ -86,7 +86,7 @@ module _ (m : Machine) (sixteen : length (m .cache .sets) ≡ 16) (memory : List
 
   store-keeps : (at value : ℕ) (ok : Bool) → refused (cond ok done (Answer.Outside (record { 0 = at }) 0 0)) ≡ true
       → Keeps m memory (call.store at value)
-          (record { answer = cond ok done (Answer.Outside (record { 0 = at }) 0 0); machine = m; memory = cond ok (store 8 memory at value) memory })
+      (record { answer = cond ok done (Answer.Outside (record { 0 = at }) 0 0); machine = m; memory = cond ok (store 8 memory at value) memory })
   store-keeps at value true h = absurd (false≢true h)
   store-keeps at value false h = unmoved (call.store at value) (Answer.Outside (record { 0 = at }) 0 0) (λ i. refl) h
 
