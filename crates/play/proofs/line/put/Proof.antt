@@ -4,8 +4,8 @@ use native.Mathlib.Omega.{arith}
 use mathlib.Core.Path.{_≡_}
 use borrow.Author.Needs.{needs}
 use lib.ListN.{length, length-set}
-use Rattle.deck.proofs.line.put.Statement.{statement}
-use Rattle.deck.proofs.line.put.Tie as tie
+use Rattle.play.proofs.line.put.Statement.{statement}
+use Rattle.play.proofs.line.put.Tie as tie
 
 abbrev Inv-loop : tie.InvT-loop
 Inv-loop line₀ at digits after count i₀ line i = (length line ≡ length line₀) × (i ≤ count)

@@ -1,8 +1,8 @@
--- `main` meets its contract.
+-- `deck` meets its contract.
 use borrow.Author.Needs.{needs}
 use Prim.Native.Nat.{_≤_}
-use Rattle.deck.proofs.main.Statement.{statement}
-use Rattle.deck.proofs.main.Tie as tie
+use Rattle.play.proofs.deck.Statement.{statement}
+use Rattle.play.proofs.deck.Tie as tie
 
 abbrev Inv-loop : tie.InvT-loop
 Inv-loop memory₀ machine₀ left₀ memory machine left = left ≤ 18446744073709551615
@@ -43,8 +43,8 @@ loop-again c = search needs
 returns-2 : tie.Need-returns-2 Inv-loop μ-loop
 returns-2 c = search needs
 
-pub main-spec : {M : Type 1} → statement M
-main-spec =
+pub deck-spec : {M : Type 1} → statement M
+deck-spec =
     tie.close
     (tie.spec
     Inv-loop
