@@ -1,0 +1,4 @@
+pub mod Marking
+pub mod Memory
+pub mod Paths
+pub mod Values
