@@ -1,4 +1,6 @@
+pub mod Frames
 pub mod Marking
 pub mod Memory
 pub mod Paths
 pub mod Values
+pub mod Rewalk

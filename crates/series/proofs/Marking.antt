@@ -174,8 +174,8 @@ marks-grown write (next e p) m a h all =
     grown-trans (marks-grown write p m a h (all .1)) (marked-grown false (marks write p m) (e .address) a (all .0) h)
 
 -- a bit that was set stays set
-stays : (b b′ : ℕ) → b % 2 ≤ b′ % 2 → b % 2 ≡ 1 → b′ % 2 ≡ 1
-stays b b′ h e = omega arith
+pub set-stays : (b b′ : ℕ) → b % 2 ≤ b′ % 2 → b % 2 ≡ 1 → b′ % 2 ≡ 1
+set-stays b b′ h e = omega arith
 
 -- an entry is accessed in memory
 abbrev pub Accessed : List ℕ → Entry → Type 0
@@ -186,7 +186,7 @@ abbrev Placed : List ℕ → Entry → Type 0
 Placed m e = Aligned e × (e .address < length m)
 
 pub accessed-stays : (m m′ : List ℕ) (e : Entry) → Grown (load 8 m (e .address)) (load 8 m′ (e .address)) → Accessed m e → Accessed m′ e
-accessed-stays m m′ e g h = stays (load 8 m (e .address) / 32) (load 8 m′ (e .address) / 32) (g .accessed) h
+accessed-stays m m′ e g h = set-stays (load 8 m (e .address) / 32) (load 8 m′ (e .address) / 32) (g .accessed) h
 
 -- the marks of a success leave every entry accessed
 pub marks-accessed : (write : Bool) (p : Path) (m : List ℕ) → IsPage (endOf p) → All Aligned (entries p) → All (λ e. e .address < length m) (entries p)
@@ -226,7 +226,7 @@ dirty-stays m m′ (outside l at) g placed h = tt
 dirty-stays m m′ (missing e) g placed h = tt
 dirty-stays m m′ (reserved e) g placed h = tt
 dirty-stays m m′ (page e base) g placed h =
-    stays (load 8 m (e .address) / 64) (load 8 m′ (e .address) / 64) (g e (placed .0) .dirty) h
+    set-stays (load 8 m (e .address) / 64) (load 8 m′ (e .address) / 64) (g e (placed .0) .dirty) h
 
 -- a write leaves the last entry dirty
 pub marks-dirty : (p : Path) (m : List ℕ) → All Aligned (entries p) → PlacedEnd m (endOf p) → DirtyEnd (marks true p m) (endOf p)
