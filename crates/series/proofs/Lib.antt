@@ -2,5 +2,7 @@ pub mod Frames
 pub mod Marking
 pub mod Memory
 pub mod Paths
-pub mod Values
+pub mod Places
 pub mod Rewalk
+pub mod Rules
+pub mod Values
