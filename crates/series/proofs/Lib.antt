@@ -1,8 +1,12 @@
+pub mod Asked
+pub mod First
 pub mod Frames
+pub mod Lists
 pub mod Marking
 pub mod Memory
 pub mod Paths
 pub mod Places
 pub mod Rewalk
 pub mod Rules
+pub mod Translations
 pub mod Values
