@@ -1,4 +1,4 @@
--- The first half: every place of a page that the cache holds is backed by the page's latest walk.
+-- The first half: a series stands soundly from the start on, so a hit is what a fresh walk gives.
 use Prim.Native.Nat.{ℕ, _≤_}
 use native.Mathlib.Decide.{ℕ-discrete}
 use native.Mathlib.Omega.{arith}
@@ -43,124 +43,248 @@ use Rattle.series.proofs.Translations.{Goes, quiet, hits, fills, goes}
 use Rattle.series.proofs.Translations as Ways
 use Rattle.series.proofs.Lists.{Has, has-keep, has-take, has-map, keep-has}
 
--- a place is backed by the latest walk of its page
-abbrev pub Backed : Settings → ℕ → Latest → Place → Type 0
-Backed s size none p = ⊥
-Backed s size (walk w) p = Backs s size w p
+use Rattle.series.proofs.Sound.{Backed, Own, Sound, kept-all, noted-quiet, noted-other, noted-walk, contradiction, dropped-own, dropped-any, emptied, filled-own, filled-other, rooted, root-alike}
 
--- a place of page t is
-abbrev pub Own : ℕ → Settings → ℕ → Latest → Place → Type 0
-Own t s size w p = p .tag ≡ t → Backed s size w p
+module _ (t size : ℕ) (m : Machine) (memory : List ℕ) (w : Latest) (sound : Sound t size (record { machine = m; memory = memory }) w) where
+  abbrev s : Settings
+  s = m .settings
 
--- where a series stands soundly for page t
-pub record Sound (t size : ℕ) (now : Stand) (w : Latest) : Type 0 where
-  pub sixteen : Sixteen (now .machine .cache)
-  pub as-long : length (now .memory) ≡ size
-  pub backed : Has (Own t (now .machine .settings) size w) (held (setIndex t) (now .machine .cache))
+  -- what a result leads to
+  abbrev Next : Call → Result → Type 0
+  Next c r = Sound t size (record { machine = r .machine; memory = r .memory }) (noted t s memory c (r .answer) (r .memory) w)
 
--- What is known of a page after a call.
+  -- a result that changes nothing and drops nothing
+  unchanged : (c : Call) (r : Answer) (after : List ℕ) → length after ≡ length memory → noted t s memory c r after w ≡ w
+      → Next c (record { answer = r; machine = m; memory = after })
+  unchanged c r after long same =
+      subst (Sound t size (record { machine = m; memory = after })) (sym same)
+      (record { sixteen = sound .sixteen; as-long = long ∙ sound .as-long; backed = sound .backed })
 
--- a call that drops nothing leaves what is known
-kept-all : (t : ℕ) (c : Call) (r : Answer) (w : Latest) → ((global : Bool) → drops t global c r ≡ false) → kept t c r w ≡ w
-kept-all t c r none h = refl
-kept-all t c r (walk v) h = ap (λ (b : Bool). forget b v) (h (v .global))
+  module _ (address : VirtAddr) (access mode : ℕ) where
+    abbrev this : Call
+    this = Calls.translate address access mode
 
-module _ (t : ℕ) (s : Settings) (before after : List ℕ) (address : VirtAddr) (access mode : ℕ) (r : Answer) (w : Latest) where
-  abbrev this : Call
-  this = Calls.translate address access mode
-
-  noted-quiet : succeeded r ≡ false → faulted r ≡ false → noted t s before this r after w ≡ w
-  noted-quiet no-success no-fault = go (eqb (tag address) t) refl
-    where
-      go : (b : Bool) → eqb (tag address) t ≡ b → cond (b && succeeded r) (walk (walkOf s address before after)) (kept t this r w) ≡ w
-      go true e = rw no-success (kept-all t this r w (λ global. rw (e, no-fault)))
-      go false e = kept-all t this r w (λ global. rw e)
-
-  noted-other : eqb (tag address) t ≡ false → noted t s before this r after w ≡ w
-  noted-other e = rw e (kept-all t this r w (λ global. rw e))
-
-  noted-walk : eqb (tag address) t ≡ true → succeeded r ≡ true → noted t s before this r after w ≡ walk (walkOf s address before after)
-  noted-walk e success = rw (e, success)
-
--- What the cache holds of a page after a change.
-
-contradiction {ℓ} : {X : Type ℓ} {b : Bool} → b ≡ true → b ≡ false → X
-contradiction yes-it no-it = absurd (false≢true (sym no-it ∙ yes-it))
-
-module _ (t size : ℕ) (s : Settings) (w : Latest) (c : Cache) (sixteen : Sixteen c) where
-  -- a drop of the page leaves none of its places
-  dropped-own : Has (Own t s size w) (held (setIndex t) (Whole.dropPage t c))
-  dropped-own =
-      subst (Has (Own t s size w)) (sym (held-drop t c (setIndex t) sixteen))
-      (keep-has (otherTag t) (λ p other same. contradiction other (drop-takes t p same)) (held (setIndex t) c))
-
-  -- a drop of any page leaves what is backed
-  dropped-any : (u : ℕ) → Has (Own t s size w) (held (setIndex t) c) → Has (Own t s size w) (held (setIndex t) (Whole.dropPage u c))
-  dropped-any u h =
-      subst (Has (Own t s size w)) (sym (held-drop u c (setIndex t) sixteen)) (has-keep (otherTag u) (λ p other own. own) (held (setIndex t) c) h)
-
-  -- nothing is held in the empty cache
-  emptied : Has (Own t s size w) (held (setIndex t) emptyCache)
-  emptied = subst (Has (Own t s size w)) (sym (held-empty (setIndex t))) tt
-
-  -- a fill of the page leaves the new place
-  filled-own : (p : Place) → p .tag ≡ t → filledIn (setIndex (p .tag)) p ≡ true → Backed s size w p → Has (Own t s size w) (held (setIndex t) (fillCache p c))
-  filled-own p same is-filled new =
-      subst (λ (u : ℕ). Has (Own t s size w) (held (setIndex u) (fillCache p c))) same
-      (subst (Has (Own t s size w)) (sym (held-fill p c sixteen is-filled))
-      (has-take (Own t s size w) 4 (p ∷ keep (spares p) (held (setIndex (p .tag)) c))
-      ((λ tag-same. new), keep-has (spares p) (λ q spared own. contradiction spared (fill-takes p q (own ∙ sym same))) (held (setIndex (p .tag)) c))))
-
-  -- a fill of another page leaves what is backed
-  filled-other : (p : Place) → (p .tag ≡ t → ⊥) → filledIn (setIndex (p .tag)) p ≡ true → Has (Own t s size w) (held (setIndex t) c)
-      → Has (Own t s size w) (held (setIndex t) (fillCache p c))
-  filled-other p other is-filled h = go (ℕ-discrete (setIndex t) (setIndex (p .tag)))
-    where
-      go : Dec (setIndex t ≡ setIndex (p .tag)) → Has (Own t s size w) (held (setIndex t) (fillCache p c))
-      go (yes same) =
-          subst (λ (i : ℕ). Has (Own t s size w) (held i (fillCache p c))) (sym same)
-          (subst (Has (Own t s size w)) (sym (held-fill p c sixteen is-filled))
-          (has-take (Own t s size w) 4 (p ∷ keep (spares p) (held (setIndex (p .tag)) c))
-          ((λ tag-same. absurd (other tag-same)),
-          has-keep (spares p) (λ q spared own. own) (held (setIndex (p .tag)) c) (subst (λ (i : ℕ). Has (Own t s size w) (held i c)) same h))))
-      go (no apart) = subst (Has (Own t s size w)) (sym (held-fill-other p c (setIndex t) apart)) h
-
--- settings with another root back what was backed
-alike-backs : (s s′ : Settings) (size : ℕ) (w : Walk) (p : Place) → Alike s s′ → Backs s size w p → Backs s′ size w p
-alike-backs s s′ size w p alike k =
-    record {
-      under = k .under;
-      at = k .at;
-      how = k .how;
-      memory = k .memory;
-      found = k .found;
-      alike = record {
-        cr0-same = k .alike .cr0-same ∙ alike .cr0-same;
-        cr4-same = k .alike .cr4-same ∙ alike .cr4-same;
-        efer-same = k .alike .efer-same ∙ alike .efer-same;
-        width-same = k .alike .width-same ∙ alike .width-same;
-      };
-      wide = k .wide;
-      as-long = k .as-long;
-      walk-found = k .walk-found;
-      is-place = k .is-place;
-      is-walk = k .is-walk;
-    }
-
-root-alike : (s : Settings) (value : ℕ) → Alike s (withRoot s value)
-root-alike s value = record { cr0-same = refl; cr4-same = refl; efer-same = refl; width-same = refl }
-
--- a root load leaves what is backed by a walk of a G page, and forgets the walk of any other
-rooted : (t size : ℕ) (s : Settings) (value : ℕ) (w : Latest) (r : Answer) (c : Cache) → Sixteen c → accepted r ≡ true → Has (Own t s size w) (held (setIndex t) c)
-    → Has (Own t (withRoot s value) size (kept t (Calls.root value) r w)) (held (setIndex t) (loadRoot c))
-rooted t size s value w r c sixteen ok h =
-    subst (Has (Own t (withRoot s value) size (kept t (Calls.root value) r w))) (sym (held-root c (setIndex t) sixteen))
-    (has-keep stays (stay w) (held (setIndex t) c) h)
-  where
-    stay : (w : Latest) (p : Place) → stays p ≡ true → Own t s size w p → Own t (withRoot s value) size (kept t (Calls.root value) r w) p
-    stay none p is-global own same = own same
-    stay (walk v) p is-global own same = go (v .global) refl (own same)
+    after-drop : (r : Answer) → Next this (record { answer = r; machine = withCache m (Whole.dropPage (tag address) (m .cache)); memory = memory })
+    after-drop r = by-cases (eqb (tag address) t) own other
       where
-        go : (b : Bool) → v .global ≡ b → Backs s size v p → Backed (withRoot s value) size (forget (accepted r && not b) v) p
-        go true e k = rw ok (alike-backs s (withRoot s value) size v p (root-alike s value) k)
-        go false e k = contradiction (sym (root-takes p) ∙ is-global) (backs-global s size v p k ∙ e)
+        own : eqb (tag address) t ≡ true → Next this (record { answer = r; machine = withCache m (Whole.dropPage (tag address) (m .cache)); memory = memory })
+        own same =
+            record {
+              sixteen = drop-sixteen (tag address) (m .cache) (sound .sixteen);
+              as-long = sound .as-long;
+              backed =
+                  subst (λ (u : ℕ). Has (Own t s size (noted t s memory this r memory w)) (held (setIndex t) (Whole.dropPage u (m .cache))))
+                  (sym (eqb-true (tag address) t same))
+                  (dropped-own t size s (noted t s memory this r memory w) (m .cache) (sound .sixteen));
+            }
+
+        other : eqb (tag address) t ≡ false → Next this (record { answer = r; machine = withCache m (Whole.dropPage (tag address) (m .cache)); memory = memory })
+        other apart =
+            subst (Sound t size (record { machine = withCache m (Whole.dropPage (tag address) (m .cache)); memory = memory }))
+            (sym (noted-other t s memory memory address access mode r w apart))
+            (record {
+              sixteen = drop-sixteen (tag address) (m .cache) (sound .sixteen);
+              as-long = sound .as-long;
+              backed = dropped-any t size s w (m .cache) (sound .sixteen) (tag address) (sound .backed);
+            })
+
+    after-fill : (a : Access) (f : Mapping) → asked s address access mode ≡ Asked.On a → walkAnswer s address a memory ≡ Walked.Mapped f
+        → Next this (record { answer = answered s address a (Walked.Mapped f); machine = withCache m (fillCache (placeOf s address a f) (m .cache)); memory = walkMemory s address a memory })
+    after-fill a f on is = by-cases (eqb (tag address) t) own other
+      where
+        new : Place
+        new = placeOf s address a f
+
+        left : List ℕ
+        left = walkMemory s address a memory
+
+        r : Answer
+        r = answered s address a (Walked.Mapped f)
+
+        is-due : Due s address access mode a
+        is-due = due s address access mode a on
+
+        is-filled : filledIn (setIndex (tag address)) (placeOf s address a f) ≡ true
+        is-filled = found-filled s address a memory f is (is-due .is-canonical)
+
+        six : Sixteen (fillCache (placeOf s address a f) (m .cache))
+        six = fill-sixteen (placeOf s address a f) (m .cache) (sound .sixteen)
+
+        long : length (walkMemory s address a memory) ≡ size
+        long =
+            ap (λ (x : List ℕ). length x) (found-memory s address a memory f is) ∙ marks-length (a .write) (walkPath s address memory) memory
+            ∙ sound .as-long
+
+        success : not (eqb (f .reads) 0) ≡ true
+        success = ap not (ne-eqb (f .reads) 0 (λ e. omega (arith, found-reads s address a memory f is)))
+
+        backs : Backs s size (walkOf s address memory (walkMemory s address a memory)) (placeOf s address a f)
+        backs =
+            record {
+              under = s;
+              at = address;
+              how = a;
+              memory = memory;
+              found = f;
+              alike = record { cr0-same = refl; cr4-same = refl; efer-same = refl; width-same = refl };
+              wide = served-wide s (is-due .is-served);
+              as-long = sound .as-long;
+              walk-found = is;
+              is-place = refl;
+              is-walk = refl;
+            }
+
+        own : eqb (tag address) t ≡ true
+            → Next this (record { answer = answered s address a (Walked.Mapped f); machine = withCache m (fillCache (placeOf s address a f) (m .cache)); memory = walkMemory s address a memory })
+        own same =
+            subst (Sound t size (record { machine = withCache m (fillCache (placeOf s address a f) (m .cache)); memory = walkMemory s address a memory }))
+            (sym (noted-walk t s memory (walkMemory s address a memory) address access mode (answered s address a (Walked.Mapped f)) w same success))
+            (record {
+              sixteen = six;
+              as-long = long;
+              backed =
+                  filled-own t size s (walk (walkOf s address memory (walkMemory s address a memory))) (m .cache) (sound .sixteen)
+                  (placeOf s address a f) (eqb-true (tag address) t same) is-filled backs;
+            })
+
+        other : eqb (tag address) t ≡ false
+            → Next this (record { answer = answered s address a (Walked.Mapped f); machine = withCache m (fillCache (placeOf s address a f) (m .cache)); memory = walkMemory s address a memory })
+        other apart =
+            subst (Sound t size (record { machine = withCache m (fillCache (placeOf s address a f) (m .cache)); memory = walkMemory s address a memory }))
+            (sym (noted-other t s memory (walkMemory s address a memory) address access mode (answered s address a (Walked.Mapped f)) w apart))
+            (record {
+              sixteen = six;
+              as-long = long;
+              backed =
+                  filled-other t size s w (m .cache) (sound .sixteen) (placeOf s address a f) (eqb-false (tag address) t apart) is-filled (sound .backed);
+            })
+
+    -- a translation
+    translation : Goes m memory address access mode → Next this (step m memory this)
+    translation (quiet r no-success no-fault is fresh-is left-is) =
+        subst (Next this) (sym is) (unchanged this r memory refl (noted-quiet t s memory memory address access mode r w no-success no-fault))
+    translation (hits a p found is fresh-is left-is) =
+        subst (Next this) (sym is) (unchanged this (hit address p) memory refl (noted-quiet t s memory memory address access mode (hit address p) w refl refl))
+    translation (fills a f on found is fresh-is left-is) = subst (Next this) (sym is) (after-fill a f on found)
+    translation (Ways.drops r no-success fault is fresh-is left-is) = subst (Next this) (sym is) (after-drop r)
+
+  -- a store
+  after-store : (at value : ℕ) → Next (Calls.store at value) (step m memory (Calls.store at value))
+  unfolding step Calls.storedResult
+  after-store at value =
+      unchanged (Calls.store at value) (cond (inside memory at) done (Answer.Outside (record { 0 = at }) 0 0)) (stored memory at value) (long (inside memory at))
+      (kept-all t (Calls.store at value) (cond (inside memory at) done (Answer.Outside (record { 0 = at }) 0 0)) w (λ global. refl))
+    where
+      long : (b : Bool) → length (cond b (store 8 memory at value) memory) ≡ length memory
+      long true = store-length 8 memory at value
+      long false = refl
+
+  -- a root load
+  after-root : (value : ℕ) → Next (Calls.root value) (step m memory (Calls.root value))
+  unfolding step Calls.rootResult
+  after-root value = go (served (withRoot s value))
+    where
+      go : (b : Bool) → Next (Calls.root value)
+          (record { answer = cond b done Answer.NotServed; machine = cond b (record { settings = withRoot s value; cache = loadRoot (m .cache) }) m; memory = memory })
+      go true =
+          record {
+            sixteen = root-sixteen (m .cache);
+            as-long = sound .as-long;
+            backed = rooted t size s value w done (m .cache) (sound .sixteen) refl (sound .backed);
+          }
+      go false = unchanged (Calls.root value) Answer.NotServed memory refl (kept-all t (Calls.root value) Answer.NotServed w (λ global. refl))
+
+  -- a settings load
+  after-settings : (cr0 cr4 efer width : ℕ) → Next (Calls.settings cr0 cr4 efer width) (step m memory (Calls.settings cr0 cr4 efer width))
+  unfolding step Calls.settingsResult
+  after-settings cr0 cr4 efer width = go (served (withSettings s cr0 cr4 efer width))
+    where
+      go : (b : Bool) → Next (Calls.settings cr0 cr4 efer width)
+          (record { answer = cond b done Answer.NotServed; machine = cond b (record { settings = withSettings s cr0 cr4 efer width; cache = emptyCache }) m; memory = memory })
+      go true =
+          record {
+            sixteen = empty-sixteen;
+            as-long = sound .as-long;
+            backed =
+                emptied t size (withSettings s cr0 cr4 efer width) (kept t (Calls.settings cr0 cr4 efer width) done w) (m .cache) (sound .sixteen);
+          }
+      go false =
+          unchanged (Calls.settings cr0 cr4 efer width) Answer.NotServed memory refl
+          (kept-all t (Calls.settings cr0 cr4 efer width) Answer.NotServed w (λ global. refl))
+
+  -- "drop all"
+  after-all : Next Calls.all (step m memory Calls.all)
+  unfolding step Calls.allResult
+  after-all =
+      record { sixteen = empty-sixteen; as-long = sound .as-long; backed = emptied t size s (kept t Calls.all done w) (m .cache) (sound .sixteen) }
+
+  -- "drop page"
+  after-page : (address : VirtAddr) → Next (Calls.page address) (step m memory (Calls.page address))
+  unfolding step Calls.pageResult
+  after-page address = go (canonical address) refl
+    where
+      go : (b : Bool) → canonical address ≡ b → Next (Calls.page address)
+          (record { answer = done; machine = cond b (withCache m (Whole.dropPage (tag address) (m .cache))) m; memory = memory })
+      go true form = by-cases (eqb (tag address) t) own other
+        where
+          own : eqb (tag address) t ≡ true → Next (Calls.page address)
+              (record { answer = done; machine = withCache m (Whole.dropPage (tag address) (m .cache)); memory = memory })
+          own same =
+              record {
+                sixteen = drop-sixteen (tag address) (m .cache) (sound .sixteen);
+                as-long = sound .as-long;
+                backed =
+                    subst (λ (u : ℕ). Has (Own t s size (kept t (Calls.page address) done w)) (held (setIndex t) (Whole.dropPage u (m .cache))))
+                    (sym (eqb-true (tag address) t same))
+                    (dropped-own t size s (kept t (Calls.page address) done w) (m .cache) (sound .sixteen));
+              }
+
+          other : eqb (tag address) t ≡ false → Next (Calls.page address)
+              (record { answer = done; machine = withCache m (Whole.dropPage (tag address) (m .cache)); memory = memory })
+          other apart =
+              subst (Sound t size (record { machine = withCache m (Whole.dropPage (tag address) (m .cache)); memory = memory }))
+              (sym (kept-all t (Calls.page address) done w (λ global. rw (form, apart))))
+              (record {
+                sixteen = drop-sixteen (tag address) (m .cache) (sound .sixteen);
+                as-long = sound .as-long;
+                backed = dropped-any t size s w (m .cache) (sound .sixteen) (tag address) (sound .backed);
+              })
+      go false form = unchanged (Calls.page address) done memory refl (kept-all t (Calls.page address) done w (λ global. rw form))
+
+  -- every call
+  after-call : (c : Call) → Next c (step m memory c)
+  after-call (Calls.translate address access mode) = translation address access mode (goes m memory address access mode)
+  after-call (Calls.store at value) = after-store at value
+  after-call (Calls.root value) = after-root value
+  after-call (Calls.settings cr0 cr4 efer width) = after-settings cr0 cr4 efer width
+  after-call (Calls.page address) = after-page address
+  after-call Calls.all = after-all
+
+  -- guest stores
+  after-stores : (other : List ℕ) → Sound t size (record { machine = m; memory = replaced memory other }) w
+  after-stores other =
+      record { sixteen = sound .sixteen; as-long = long (eqb (length other) (length memory)) refl ∙ sound .as-long; backed = sound .backed }
+    where
+      long : (b : Bool) → eqb (length other) (length memory) ≡ b → length (cond b other memory) ≡ length memory
+      long true e = eqb-true (length other) (length memory) e
+      long false e = refl
+
+-- every event of a series
+after-event : (t size : ℕ) (now : Stand) (w : Latest) → Sound t size now w → (e : Event) → Sound t size (leads now e) (notedEvent t now e w)
+after-event t size now w sound (call c) = after-call t size (now .machine) (now .memory) w sound c
+after-event t size now w sound (stores other) = after-stores t size (now .machine) (now .memory) w sound other
+
+-- a whole series
+pub after-series : (t size : ℕ) (now : Stand) (w : Latest) → Sound t size now w → (es : List Event) → Sound t size (run now es) (latest t now es w)
+unfolding run latest
+after-series t size now w sound [] = sound
+after-series t size now w sound (e ∷ es) = after-series t size (leads now e) (notedEvent t now e w) (after-event t size now w sound e) es
+
+-- the start stands soundly
+pub start-sound : (t : ℕ) (s : Settings) (memory : List ℕ) → Sound t (length memory) (start s memory) none
+start-sound t s memory =
+    record {
+      sixteen = empty-sixteen;
+      as-long = refl;
+      backed = emptied t (length memory) (started s .settings) none emptyCache empty-sixteen;
+    }

@@ -1,4 +1,5 @@
 pub mod Asked
+pub mod Demand
 pub mod First
 pub mod Frames
 pub mod Lists
@@ -8,5 +9,6 @@ pub mod Paths
 pub mod Places
 pub mod Rewalk
 pub mod Rules
+pub mod Sound
 pub mod Translations
 pub mod Values
