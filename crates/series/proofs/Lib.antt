@@ -9,6 +9,8 @@ pub mod Paths
 pub mod Places
 pub mod Rewalk
 pub mod Rules
+pub mod Second
+pub mod Sets
 pub mod Sound
 pub mod Translations
 pub mod Values
