@@ -37,7 +37,7 @@ use Rattle.machine.specs.Remember.{wanted, placeOf, hit}
 use Rattle.machine.specs.Calls.{Call, Result, step, withCache, withRoot, withSettings, done}
 use Rattle.machine.specs.Calls as Calls
 use Rattle.series.specs.Series.{Event, call, stores, Stand, gives, leads, run, start}
-use Rattle.series.specs.History.{succeeded, asks, drops}
+use Rattle.series.specs.History.{none, succeeded, asks, drops}
 use Rattle.series.specs.Demand.{others, among, counted, Between, again, global, SecondHalf}
 use Rattle.series.proofs.Places.{Alike, found-reads, found-filled, found-serves, found-global}
 use Rattle.series.proofs.Asked.{Due, due, due-again}
@@ -216,3 +216,116 @@ module _ (t : ℕ) (pages : List ℕ) (at-most : length pages ≤ others) (p : P
       after-call (Calls.settings cr0 cr4 efer width) = after-settings cr0 cr4 efer width
       after-call (Calls.page address) = after-page address
       after-call Calls.all = after-all
+
+    -- a series that spares the page
+    remembered : (now : Stand) (es : List Event) → Remembers (now .machine) → Between t (p .global) pages now es → Remembers (run now es .machine)
+    unfolding run
+    remembered now [] k spared = k
+    remembered now (call c ∷ es) k spared =
+        remembered (leads now (call c)) es (after-call (now .machine) (now .memory) k c (spared .0) (spared .1) (spared .2)) (spared .3)
+    remembered now (stores other ∷ es) k spared = remembered (leads now (stores other)) es k spared
+
+    -- where the place serves, it is found
+    found-again : (m : Machine) (w : Wanted) → w .tag ≡ t → serves w p ≡ true → Remembers m → findCache w (m .cache) ≡ Found.At p
+    found-again m w same serving k =
+        find-cache w (m .cache)
+        ∙ ap (λ (u : ℕ). firstServing w (held (setIndex u) (m .cache))) same
+        ∙ ap (firstServing w) (k .stays-in .is-held)
+        ∙ passed-by w (k .stays-in .front) (p ∷ k .stays-in .rest)
+        (each-weaker (otherTag t) (λ q. not (serves w q)) (λ q other. other-serves-not w q (subst (λ (u : ℕ). otherTag u q ≡ true) (sym same) other))
+        (k .stays-in .front) (k .stays-in .apart))
+        ∙ rw serving
+
+-- a translation that finds a place
+hit-result : (m : Machine) (memory : List ℕ) (address : VirtAddr) (access mode : ℕ) (a : Access) (p : Place)
+    → asked (m .settings) address access mode ≡ Asked.On a → findCache (wanted (m .settings) address a) (m .cache) ≡ Found.At p
+    → step m memory (Calls.translate address access mode) .answer ≡ hit address p
+unfolding step Calls.translated
+hit-result m memory address access mode a p on found = rw (on, found)
+
+-- the numbers of a hit on the place of an answer
+piece : (x y : ℕ) → (x % 2 ^ 64 / 4096 * 4096 + y % 4096) % 2 ^ 64 ≡ x % 2 ^ 64 / 4096 * 4096 + y % 4096
+piece x y = omega arith
+
+again-numbers : (s : Settings) (first later : VirtAddr) (a : Access) (f : Mapping)
+    → numbers (hit later (placeOf s first a f)) ≡ again (numbers (answered s first a (Walked.Mapped f))) later
+again-numbers s first later a f =
+    ap (λ (x : ℕ). record { answer = 0; value = x; detail = f .size; reads = 0 }) (piece (f .base .0 + offset first (f .size)) (later .0))
+
+module _ (now : Stand) (sixteen : Sixteen (now .machine .cache)) (between : List Event) (first later : VirtAddr) (access mode : ℕ)
+    (pages : List ℕ) (same : tag later ≡ tag first) (at-most : length pages ≤ others) where
+  abbrev s : Settings
+  s = now .machine .settings
+
+  -- what a first result promises
+  abbrev Promise : Result → Type 0
+  Promise r =
+      succeeded (r .answer) ≡ true
+      → Between (tag first) (global now first) pages (record { machine = r .machine; memory = r .memory }) between
+      → numbers (gives (run (record { machine = r .machine; memory = r .memory }) between) (Calls.translate later access mode) .answer)
+      ≡ again (numbers (r .answer)) later
+
+  after-fill : (a : Access) (f : Mapping) → asked s first access mode ≡ Asked.On a → walkAnswer s first a (now .memory) ≡ Walked.Mapped f
+      → Promise (record { answer = answered s first a (Walked.Mapped f); machine = withCache (now .machine) (fillCache (placeOf s first a f) (now .machine .cache));
+      memory = walkMemory s first a (now .memory) })
+  after-fill a f on found success spared =
+      ap numbers (hit-result (end .machine) (end .memory) later access mode a (placeOf s first a f) on-later find-later)
+      ∙ again-numbers s first later a f
+    where
+      filled-now : Machine
+      filled-now = withCache (now .machine) (fillCache (placeOf s first a f) (now .machine .cache))
+
+      end : Stand
+      end = run (record { machine = filled-now; memory = walkMemory s first a (now .memory) }) between
+
+      is-due : Due s first access mode a
+      is-due = due s first access mode a on
+
+      is-filled : filledIn (setIndex (tag first)) (placeOf s first a f) ≡ true
+      is-filled = found-filled s first a (now .memory) f found (is-due .is-canonical)
+
+      at-first : Remembers (tag first) pages at-most (placeOf s first a f) refl s filled-now
+      at-first =
+          record {
+            stays-in = record {
+              sixteen = fill-sixteen (placeOf s first a f) (now .machine .cache) sixteen;
+              front = [];
+              rest = take 3 (keep (spares (placeOf s first a f)) (held (setIndex (tag first)) (now .machine .cache)));
+              is-held = held-fill (placeOf s first a f) (now .machine .cache) sixteen is-filled;
+              few = tt;
+              apart = tt;
+            };
+            alike = record { cr0-same = refl; cr4-same = refl; efer-same = refl; width-same = refl };
+            serving = is-due .is-served;
+          }
+
+      at-end : Remembers (tag first) pages at-most (placeOf s first a f) refl s (end .machine)
+      at-end =
+          remembered (tag first) pages at-most (placeOf s first a f) refl s
+          (record { machine = filled-now; memory = walkMemory s first a (now .memory) }) between at-first
+          (subst (λ (g : Bool). Between (tag first) g pages (record { machine = filled-now; memory = walkMemory s first a (now .memory) }) between)
+          (sym (found-global s first a (now .memory) f found (now .memory))) spared)
+
+      on-later : asked (end .machine .settings) later access mode ≡ Asked.On a
+      on-later = due-again s (end .machine .settings) first later access mode a (at-end .alike) (at-end .serving) (sym same) is-due
+
+      find-later : findCache (wanted (end .machine .settings) later a) (end .machine .cache) ≡ Found.At (placeOf s first a f)
+      find-later =
+          found-again (tag first) pages at-most (placeOf s first a f) refl s (end .machine) (wanted (end .machine .settings) later a) same
+          (found-serves s first a (now .memory) f found (end .machine .settings) later (at-end .alike) (sym same)) at-end
+
+  promised : Goes (now .machine) (now .memory) first access mode → Promise (gives now (Calls.translate first access mode))
+  promised (quiet r no-success no-fault is fresh-is left-is) =
+      subst Promise (sym is) (λ success. contradiction success no-success)
+  promised (hits a p found is fresh-is left-is) = subst Promise (sym is) (λ success. contradiction success refl)
+  promised (fills a f on found is fresh-is left-is) = subst Promise (sym is) (after-fill a f on found)
+  promised (Ways.drops r no-success fault is fresh-is left-is) = subst Promise (sym is) (λ success. contradiction success no-success)
+
+-- the second half
+pub second-half : SecondHalf
+second-half s memory series between first later access mode pages success same at-most spared =
+    promised (run (start s memory) series)
+    (after-series (tag first) (length memory) (start s memory) none (start-sound (tag first) s memory) series .sixteen)
+    between first later access mode pages same at-most
+    (goes (run (start s memory) series .machine) (run (start s memory) series .memory) first access mode)
+    success spared
