@@ -1,12 +1,12 @@
 -- What the tests before a walk say of settings and address, and that they look at a page's tag alone.
 use Prim.Native.Nat.{ℕ, _^_, _≤_}
 use native.Mathlib.Omega.{arith}
-use mathlib.Core.Path.{_≡_, refl, sym, ap, ap₂, _∙_}
-use mathlib.Core.Bool.{Bool, true, false, not, _&&_, _||_, cond}
+use mathlib.Core.Path.{_≡_, refl, ap}
+use mathlib.Core.Bool.{Bool, true, false, cond}
 use borrow.Author.Tests.{leb-true}
 use lib.Dec.{leb, ltb}
 use Rattle.settings.specs.declared.Settings.{Settings}
-use Rattle.settings.specs.Settings.{served, pg, widthServed, rootServed, modeServed, extensionsServed}
+use Rattle.settings.specs.Settings.{served, pg, widthServed}
 use Rattle.word.specs.Bits.{bit}
 use Rattle.address.specs.declared.VirtAddr.{VirtAddr}
 use Rattle.address.specs.Address.{tag, canonical}
@@ -14,7 +14,7 @@ use Rattle.walk.specs.declared.Access.{Access}
 use Rattle.walk.specs.declared.Asked.{Asked}
 use Rattle.walk.specs.declared.Asked.the-variants as Asked
 use Rattle.walk.specs.Access.{known, accessOf}
-use Rattle.walk.specs.Translate.{asked, askedOn, askedOff}
+use Rattle.walk.specs.Translate.{asked, askedOff}
 use Rattle.cache.proofs.Lists.{and-true}
 use Rattle.series.proofs.Frames.{canonical-same}
 use Rattle.series.proofs.Places.{Alike}

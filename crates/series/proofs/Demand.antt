@@ -1,14 +1,13 @@
 -- Demand 3: its first half, and what any call that walks gives.
 use Prim.Native.Nat.{ℕ}
-use mathlib.Core.Path.{_≡_, refl, sym, ap, _∙_}
-use mathlib.Core.Bool.{Bool, true, false, not, false≢true}
-use mathlib.Core.List.{List, List·Memᴰ}
+use mathlib.Core.Path.{_≡_, sym, ap, _∙_}
+use mathlib.Core.Bool.{true, false, false≢true}
+use mathlib.Core.List.{List·Memᴰ}
 use lib.ListN.{length}
 use Rattle.settings.specs.declared.Settings.{Settings}
 use Rattle.address.specs.declared.VirtAddr.{VirtAddr}
 use Rattle.address.specs.Address.{tag}
 use Rattle.walk.specs.declared.Access.{Access}
-use Rattle.walk.specs.declared.Answer.{Answer}
 use Rattle.walk.specs.Walk.{walkAnswer, walkMemory}
 use Rattle.walk.specs.Translate.{answered, translated, translatedMemory}
 use Rattle.cache.specs.declared.Found.the-variants as Found
@@ -20,7 +19,7 @@ use Rattle.cache.proofs.Lists.{first-serves}
 use Rattle.machine.specs.Remember.{wanted, hit}
 use Rattle.machine.specs.Calls.{Result}
 use Rattle.machine.specs.Calls as Calls
-use Rattle.series.specs.Series.{Event, Stand, gives, run, start}
+use Rattle.series.specs.Series.{Stand, gives, run, start}
 use Rattle.series.specs.History.{Latest, none, walk, latest}
 use Rattle.series.specs.Demand.{Premise, AsFresh, told, walks, FirstHalf, AnyWalk}
 use Rattle.series.proofs.Lists.{has-member}

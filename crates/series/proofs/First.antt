@@ -1,13 +1,12 @@
 -- The first half: a series stands soundly from the start on, so a hit is what a fresh walk gives.
-use Prim.Native.Nat.{ℕ, _≤_}
-use native.Mathlib.Decide.{ℕ-discrete}
+use Prim.Native.Nat.{ℕ}
 use native.Mathlib.Omega.{arith}
-use mathlib.Core.Path.{_≡_, refl, sym, ap, ap₂, subst, _∙_}
-use mathlib.Core.Bool.{Bool, true, false, not, _&&_, cond, false≢true}
+use mathlib.Core.Path.{_≡_, refl, sym, ap, subst, _∙_}
+use mathlib.Core.Bool.{Bool, true, false, not, cond}
 use mathlib.Core.List.{List, [], _∷_}
-use borrow.Author.Tests.{eqb-true, eqb-false, eq-eqb, ne-eqb}
+use borrow.Author.Tests.{eqb-true, eqb-false, ne-eqb}
 use lib.Dec.{eqb}
-use lib.ListN.{length, take}
+use lib.ListN.{length}
 use Rattle.word.specs.Bytes.{inside, stored, store}
 use Rattle.word.proofs.Laws.{store-length}
 use Rattle.settings.specs.declared.Settings.{Settings}
@@ -23,27 +22,24 @@ use Rattle.walk.specs.declared.Walked.the-variants as Walked
 use Rattle.walk.specs.Walk.{walkPath, walkAnswer, walkMemory}
 use Rattle.walk.specs.Translate.{asked, answered}
 use Rattle.walk.proofs.Laws.{by-cases}
-use Rattle.cache.specs.declared.Cache.{Cache}
 use Rattle.cache.specs.declared.Place.{Place}
-use Rattle.cache.specs.Places.{setIndex, filledIn, otherTag, spares, stays}
-use Rattle.cache.specs.Sets.{keep}
+use Rattle.cache.specs.Places.{setIndex, filledIn}
 use Rattle.cache.specs.Whole.{held, emptyCache, fillCache, loadRoot}
 use Rattle.cache.specs.Whole as Whole
-use Rattle.cache.proofs.Laws.{Sixteen, empty-sixteen, fill-sixteen, drop-sixteen, root-sixteen, held-empty, held-fill, held-fill-other, held-drop, held-root, drop-takes, fill-takes, root-takes}
+use Rattle.cache.proofs.Laws.{Sixteen, empty-sixteen, fill-sixteen, drop-sixteen, root-sixteen}
 use Rattle.machine.specs.declared.Machine.{Machine}
 use Rattle.machine.specs.Remember.{placeOf, hit}
-use Rattle.machine.specs.Calls.{Call, Result, step, withCache, only, withRoot, withSettings, loadAnswer, loaded, done, started}
+use Rattle.machine.specs.Calls.{Call, Result, step, withCache, withRoot, withSettings, done, started}
 use Rattle.machine.specs.Calls as Calls
-use Rattle.series.specs.Series.{Event, call, stores, Stand, replaced, gives, leads, run, start}
-use Rattle.series.specs.History.{Walk, Latest, none, walk, walkOf, succeeded, faulted, accepted, drops, forget, kept, noted, notedEvent, latest}
+use Rattle.series.specs.Series.{Event, call, stores, Stand, replaced, leads, run, start}
+use Rattle.series.specs.History.{Latest, none, walk, walkOf, drops, kept, noted, notedEvent, latest}
 use Rattle.series.proofs.Marking.{marks-length}
-use Rattle.series.proofs.Places.{Alike, Backs, backs-global, found-reads, found-memory, found-filled}
+use Rattle.series.proofs.Places.{Backs, found-reads, found-memory, found-filled}
 use Rattle.series.proofs.Asked.{Due, due, served-wide}
 use Rattle.series.proofs.Translations.{Goes, quiet, hits, fills, goes}
 use Rattle.series.proofs.Translations as Ways
-use Rattle.series.proofs.Lists.{Has, has-keep, has-take, has-map, keep-has}
-
-use Rattle.series.proofs.Sound.{Backed, Own, Sound, kept-all, noted-quiet, noted-other, noted-walk, contradiction, dropped-own, dropped-any, emptied, filled-own, filled-other, rooted, root-alike}
+use Rattle.series.proofs.Lists.{Has}
+use Rattle.series.proofs.Sound.{Own, Sound, kept-all, noted-quiet, noted-other, noted-walk, dropped-own, dropped-any, emptied, filled-own, filled-other, rooted}
 
 module _ (t size : ℕ) (m : Machine) (memory : List ℕ) (w : Latest) (sound : Sound t size (record { machine = m; memory = memory }) w) where
   abbrev s : Settings
@@ -173,7 +169,7 @@ module _ (t size : ℕ) (m : Machine) (memory : List ℕ) (w : Latest) (sound : 
   unfolding step Calls.storedResult
   after-store at value =
       unchanged (Calls.store at value) (cond (inside memory at) done (Answer.Outside (record { 0 = at }) 0 0)) (stored memory at value) (long (inside memory at))
-      (kept-all t (Calls.store at value) (cond (inside memory at) done (Answer.Outside (record { 0 = at }) 0 0)) w (λ global. refl))
+      (kept-all t (Calls.store at value) (cond (inside memory at) done (Answer.Outside (record { 0 = at }) 0 0)) w (λ v. refl))
     where
       long : (b : Bool) → length (cond b (store 8 memory at value) memory) ≡ length memory
       long true = store-length 8 memory at value
@@ -192,7 +188,7 @@ module _ (t size : ℕ) (m : Machine) (memory : List ℕ) (w : Latest) (sound : 
             as-long = sound .as-long;
             backed = rooted t size s value w done (m .cache) (sound .sixteen) refl (sound .backed);
           }
-      go false = unchanged (Calls.root value) Answer.NotServed memory refl (kept-all t (Calls.root value) Answer.NotServed w (λ global. refl))
+      go false = unchanged (Calls.root value) Answer.NotServed memory refl (kept-all t (Calls.root value) Answer.NotServed w (λ v. refl))
 
   -- a settings load
   after-settings : (cr0 cr4 efer width : ℕ) → Next (Calls.settings cr0 cr4 efer width) (step m memory (Calls.settings cr0 cr4 efer width))
@@ -210,7 +206,7 @@ module _ (t size : ℕ) (m : Machine) (memory : List ℕ) (w : Latest) (sound : 
           }
       go false =
           unchanged (Calls.settings cr0 cr4 efer width) Answer.NotServed memory refl
-          (kept-all t (Calls.settings cr0 cr4 efer width) Answer.NotServed w (λ global. refl))
+          (kept-all t (Calls.settings cr0 cr4 efer width) Answer.NotServed w (λ v. refl))
 
   -- "drop all"
   after-all : Next Calls.all (step m memory Calls.all)
@@ -243,13 +239,13 @@ module _ (t size : ℕ) (m : Machine) (memory : List ℕ) (w : Latest) (sound : 
               (record { answer = done; machine = withCache m (Whole.dropPage (tag address) (m .cache)); memory = memory })
           other apart =
               subst (Sound t size (record { machine = withCache m (Whole.dropPage (tag address) (m .cache)); memory = memory }))
-              (sym (kept-all t (Calls.page address) done w (λ global. rw (form, apart))))
+              (sym (kept-all t (Calls.page address) done w (λ v. rw (form, apart))))
               (record {
                 sixteen = drop-sixteen (tag address) (m .cache) (sound .sixteen);
                 as-long = sound .as-long;
                 backed = dropped-any t size s w (m .cache) (sound .sixteen) (tag address) (sound .backed);
               })
-      go false form = unchanged (Calls.page address) done memory refl (kept-all t (Calls.page address) done w (λ global. rw form))
+      go false form = unchanged (Calls.page address) done memory refl (kept-all t (Calls.page address) done w (λ v. rw form))
 
   -- every call
   after-call : (c : Call) → Next c (step m memory c)

@@ -1,17 +1,15 @@
 -- The frame of a page: every address of the page has the same, and it is below 2^40.
 use Prim.Native.Nat.{ℕ, zero, suc, _+_, _-_, _*_, _/_, _%_, _^_, _≤_, _<_}
-use native.Mathlib.Nat.{mod-eq-of-lt}
 use native.Mathlib.Omega.{arith}
-use mathlib.Core.Path.{_≡_, refl, sym, ap, ap₂, _∙_}
+use mathlib.Core.Path.{_≡_, refl, sym, ap, _∙_}
 use mathlib.Core.Bool.{Bool, true, false, _||_}
 use borrow.Author.Tests.{eqb-true}
 use lib.Arith.{mod-mul}
 use lib.Dec.{eqb, lit<}
 use lib.Pow.{pow-add, pow-pos}
 use Rattle.word.specs.Bits.{field}
-use Rattle.address.specs.declared.PhysAddr.{PhysAddr}
 use Rattle.address.specs.declared.VirtAddr.{VirtAddr}
-use Rattle.address.specs.Address.{pageBits, tag, offset, plus, frameOf, inFrame, canonical, levels}
+use Rattle.address.specs.Address.{pageBits, tag, offset, plus, frameOf, inFrame, canonical}
 
 -- an offset is the tag's part and the offset in the piece of 4 KiB
 offset-split : (va : VirtAddr) (l : ℕ) → offset va (suc l) ≡ tag va % 2 ^ (9 * l) * 4096 + va .0 % 4096
@@ -32,8 +30,13 @@ pub same-frame : (first later : VirtAddr) (k size : ℕ) → 1 ≤ size → tag 
 same-frame first later k zero low same = absurd (omega arith)
 same-frame first later k (suc l) low same =
     ap (λ (x : ℕ). record { 0 = x })
-    (rw (offset-split first l, offset-split later l, same, sums k (tag later % 2 ^ (9 * l)) (first .0 % 4096),
-      sums k (tag later % 2 ^ (9 * l)) (later .0 % 4096))
+    (rw (
+      offset-split first l,
+      offset-split later l,
+      same,
+      sums k (tag later % 2 ^ (9 * l)) (first .0 % 4096),
+      sums k (tag later % 2 ^ (9 * l)) (later .0 % 4096),
+    )
     (piece (k + tag later % 2 ^ (9 * l)) (first .0) (later .0)))
 
 -- a page lies below 2^52

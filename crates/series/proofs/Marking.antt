@@ -3,10 +3,10 @@ use Prim.Native.Nat.{ℕ, zero, suc, _+_, _-_, _*_, _/_, _%_, _^_, _≤_, _<_}
 use native.Mathlib.Omega.{arith}
 use mathlib.Core.Path.{_≡_, refl, sym, ap, ap₂, _∙_}
 use mathlib.Core.Bool.{Bool, true, false, not, _&&_, _||_, cond, false≢true}
-use mathlib.Core.List.{List, [], _∷_}
+use mathlib.Core.List.{List}
 use borrow.Author.Tests.{leb-true, lt-leb, lt-ltb}
 use native.Mathlib.Decide.{decLe}
-use lib.Dec.{eqb, leb, ltb, lit≤}
+use lib.Dec.{leb, ltb}
 use lib.ListN.{length}
 use Rattle.word.specs.Bits.{bit, field}
 use Rattle.word.specs.Bytes.{load, inside}
@@ -17,11 +17,10 @@ use Rattle.entry.specs.declared.Says.{Says}
 use Rattle.entry.specs.declared.Says.the-variants as Says
 use Rattle.entry.specs.Says.{says, told, isPage, reserved as isReserved, aboveWidth, executeDisabled, sizeTooLarge, insidePage, largest, tableBase, pageBase}
 use Rattle.entry.specs.Mark.{mark}
-use Rattle.walk.specs.Path.{Path, End, Entry, ends, next, outside, missing, reserved, page, onward, level, path, entries, endOf, marks, markLast}
-use Rattle.walk.proofs.Laws.{by-cases}
+use Rattle.walk.specs.Path.{Path, End, Entry, ends, next, outside, missing, reserved, page, onward, level, path, entries, endOf, marks}
 use Rattle.series.proofs.Values.{Grown, grown-refl, grown-trans}
 use Rattle.series.proofs.Memory.{marked-grown, marked-accessed, marked-dirty, mark-length, mark-none}
-use Rattle.series.proofs.Paths.{All, all-map, reread, rereadEnd, refreshed}
+use Rattle.series.proofs.Paths.{All, all-map, reread}
 
 -- an entry that a walk of memory read and did not refuse
 pub record Read (nxe : Bool) (m : List ℕ) (e : Entry) : Type 0 where
@@ -113,11 +112,11 @@ module _ (width : ℕ) (nxe : Bool) (m : List ℕ) where
       let h = told-page (bit v 0) (isReserved width nxe l v) (isPage l v) l v base tells in
       let r = entry-read l at v (sizeTooLarge l v || insidePage l v) is in-memory is-aligned (h .0) in
       let end : Ending (record { level = l; address = at; value = v }) (base .0) =
-          record {
-            level-from = low;
-            level-to = not-large l (leb l 1) (bit v 7) (aboveWidth width v || executeDisabled nxe v) (insidePage l v) refl (h .0) (h .1);
-            base-is = ap (λ (b : PhysAddr). b .0) (sym (h .2));
-          } in
+      record {
+        level-from = low;
+        level-to = not-large l (leb l 1) (bit v 7) (aboveWidth width v || executeDisabled nxe v) (insidePage l v) refl (h .0) (h .1);
+        base-is = ap (λ (b : PhysAddr). b .0) (sym (h .2));
+      } in
       ((r, tt), (r, end))
   onward-read l at v (Says.Table base) rest low is in-memory is-aligned tells below ok =
       let h = told-table (bit v 0) (isReserved width nxe l v) (isPage l v) l v base tells in

@@ -1,16 +1,14 @@
 -- The laws behind which the walk is closed: of the place that a successful walk leaves.
-use Prim.Native.Nat.{ℕ, _+_, _*_, _/_, _%_, _^_, _≤_, _<_}
+use Prim.Native.Nat.{ℕ, _/_, _%_, _≤_}
 use native.Mathlib.Omega.{arith}
-use mathlib.Core.Path.{_≡_, refl, sym, ap, ap₂, subst, _∙_}
-use mathlib.Core.Bool.{Bool, true, false, not, _&&_, _||_, cond}
+use mathlib.Core.Path.{_≡_, refl, sym, ap, subst, _∙_}
+use mathlib.Core.Bool.{Bool, true, not, _&&_, _||_}
 use mathlib.Core.List.{List, [], _∷_}
-use borrow.Author.Tests.{leb-true}
-use lib.Dec.{leb}
 use lib.ListN.{length}
 use Rattle.word.specs.Bits.{bit}
 use Rattle.word.specs.Bytes.{load}
 use Rattle.settings.specs.declared.Settings.{Settings}
-use Rattle.settings.specs.Settings.{nxe, wp, pge, root, served, widthServed}
+use Rattle.settings.specs.Settings.{nxe, pge, root}
 use Rattle.address.specs.declared.PhysAddr.{PhysAddr}
 use Rattle.address.specs.declared.VirtAddr.{VirtAddr}
 use Rattle.address.specs.Address.{tag, canonical, offset, plus, frameOf, inFrame}
@@ -19,23 +17,24 @@ use Rattle.entry.specs.Says.{says}
 use Rattle.walk.specs.declared.Access.{Access}
 use Rattle.walk.specs.declared.Mapping.{Mapping}
 use Rattle.walk.specs.declared.Walked.{Walked}
-use Rattle.walk.specs.declared.Walked.the-variants.{Mapped, Refused, Outside}
-use Rattle.walk.specs.Access.{needsWrite, needsUser, needsFetch, needed}
-use Rattle.walk.specs.Path.{Path, End, Entry, page, path, entries, endOf, reads, rights, marks, every}
+use Rattle.walk.specs.declared.Walked.the-variants.{Mapped}
+use Rattle.walk.specs.Access.{needsWrite, needed}
+use Rattle.walk.specs.Path.{Path, Entry, page, path, entries, endOf, reads, rights, marks, every}
 use Rattle.walk.specs.Walk.{walked, after, walkPath, walkAnswer, walkMemory}
 use Rattle.walk.specs.Translate.{answered}
 use Rattle.cache.specs.declared.Place.{Place}
 use Rattle.cache.specs.Places.{setIndex, filledIn, serves, given}
 use Rattle.cache.proofs.Laws.{Serves, has-filled, has-serves, serves-has}
 use Rattle.machine.specs.Remember.{wanted, placeOf, hit}
-use Rattle.series.specs.History.{Left, Walk, leftIn, isGlobal, walkOf}
-use Rattle.series.specs.Demand.{Holds, told}
+use Rattle.series.specs.History.{Walk, leftIn, isGlobal, walkOf}
+use Rattle.series.specs.Holds.{Holds}
+use Rattle.series.specs.Demand.{told}
 use Rattle.series.proofs.Values.{Grown, since-is-grown}
 use Rattle.series.proofs.Frames.{same-frame, frame-small, base-frame, tag-small}
 use Rattle.series.proofs.Paths.{All, refreshed}
 use Rattle.series.proofs.Marking.{Read, Ending, AtPage, IsPage, read-path}
 use Rattle.series.proofs.Rules.{number-write, number-user, number-fetch, given-allow, allow-given, none-disabled, dirty-given, given-there}
-use Rattle.series.proofs.Rewalk.{Success, success, succeeds, reads-some, end-now, rights-now, reads-now, memory-now}
+use Rattle.series.proofs.Rewalk.{Success, success, succeeds, reads-some, end-now, rights-now, memory-now}
 
 -- settings that differ in the root alone
 pub record Alike (s s′ : Settings) : Type 0 where

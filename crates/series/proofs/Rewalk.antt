@@ -1,11 +1,10 @@
 -- A walk made again where each entry holds what an earlier walk of the page left.
-use Prim.Native.Nat.{ℕ, zero, suc, _+_, _-_, _*_, _/_, _%_, _^_, _≤_, _<_}
+use Prim.Native.Nat.{ℕ, _/_, _%_, _≤_, _<_}
 use native.Mathlib.Omega.{arith}
-use mathlib.Core.Path.{_≡_, refl, sym, ap, ap₂, subst, _∙_}
-use mathlib.Core.Bool.{Bool, true, false, not, _&&_, _||_, cond}
-use mathlib.Core.List.{List, [], _∷_}
+use mathlib.Core.Path.{_≡_, refl, sym, ap, subst, _∙_}
+use mathlib.Core.Bool.{Bool, true, false, _||_, cond}
+use mathlib.Core.List.{List}
 use borrow.Author.Tests.{eqb-true}
-use lib.Dec.{eqb}
 use lib.ListN.{length}
 use Rattle.word.specs.Bits.{bit}
 use Rattle.word.specs.Bytes.{load}
@@ -13,15 +12,14 @@ use Rattle.address.specs.declared.VirtAddr.{VirtAddr}
 use Rattle.address.specs.Address.{tag}
 use Rattle.entry.specs.Says.{says}
 use Rattle.entry.specs.Rights.{allow}
-use Rattle.walk.specs.declared.Cause.the-variants.{Missing, Reserved, Rights}
+use Rattle.walk.specs.declared.Cause.the-variants.{Rights}
 use Rattle.walk.specs.declared.Mapping.{Mapping}
-use Rattle.walk.specs.declared.Walked.{Walked}
-use Rattle.walk.specs.declared.Walked.the-variants.{Mapped, Refused, Outside}
+use Rattle.walk.specs.declared.Walked.the-variants.{Mapped, Refused}
 use Rattle.walk.specs.Path.{Path, End, Entry, ends, next, outside, missing, reserved, page, path, entries, endOf, reads, rights, report, marks}
-use Rattle.walk.specs.Walk.{ended, walked, after}
+use Rattle.walk.specs.Walk.{ended, walked}
 use Rattle.series.proofs.Values.{Grown, grown-trans}
 use Rattle.series.proofs.Paths.{All, all-map, Kept, reread, rereadEnd, refreshed, path-again, end-again, reads-again, rights-again}
-use Rattle.series.proofs.Marking.{Read, Ending, AtPage, IsPage, Aligned, Accessed, DirtyEnd, PlacedEnd, read-path, marks-grown, marks-accessed, marks-dirty, marks-none, marks-again, accessed-stays, set-stays}
+use Rattle.series.proofs.Marking.{Read, IsPage, Aligned, Accessed, DirtyEnd, PlacedEnd, read-path, marks-grown, marks-accessed, marks-dirty, marks-none, marks-again, accessed-stays, set-stays}
 
 -- a walk that ends in a success: its last entry, its page's base, and that its rights allow
 pub record Success (need : ℕ) (p : Path) (found : Mapping) : Type 0 where
@@ -148,8 +146,8 @@ module _ (width : ℕ) (nxe : Bool) (wide : 7 ≤ width) (root : ℕ) (root-alig
     dirty-now false written is-was is-written h =
         let g = last-has (λ (f : Entry). Grown (load 8 (marks write₀ before m₀) (f .address)) (load 8 m (f .address))) before e b at-end grew .dirty in
         let six : load 8 (marks write₀ before m₀) (e .address) / 64 % 2 ≡ 1 =
-            subst (λ (w : Bool). load 8 (marks w before m₀) (e .address) / 64 % 2 ≡ 1) (sym (is-written ∙ h))
-            (subst (DirtyEnd (marks true before m₀)) at-end (marks-dirty before m₀ was-aligned placed)) in
+        subst (λ (w : Bool). load 8 (marks w before m₀) (e .address) / 64 % 2 ≡ 1) (sym (is-written ∙ h))
+        (subst (DirtyEnd (marks true before m₀)) at-end (marks-dirty before m₀ was-aligned placed)) in
         set-stays (load 8 (marks write₀ before m₀) (e .address) / 64) (load 8 m (e .address) / 64) g six
 
     -- the marks of the walk now change nothing

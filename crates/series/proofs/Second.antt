@@ -5,23 +5,21 @@ use native.Mathlib.Omega.{arith}
 use mathlib.Core.Path.{_≡_, refl, sym, ap, ap₂, subst, _∙_}
 use mathlib.Core.Bool.{Bool, true, false, not, _&&_, _||_, cond, false≢true}
 use mathlib.Core.List.{List, [], _∷_, _++_}
-use borrow.Author.Tests.{eqb-true, eqb-false, eq-eqb, ne-eqb, not-true, not-false}
+use borrow.Author.Tests.{eqb-false, eq-eqb, ne-eqb, not-false}
 use lib.Dec.{eqb}
 use lib.ListN.{length, take}
 use Rattle.settings.specs.declared.Settings.{Settings}
 use Rattle.settings.specs.Settings.{served}
 use Rattle.address.specs.declared.VirtAddr.{VirtAddr}
-use Rattle.address.specs.Address.{tag, canonical, offset, plus}
+use Rattle.address.specs.Address.{tag, canonical, offset}
 use Rattle.walk.specs.declared.Access.{Access}
 use Rattle.walk.specs.declared.Answer.{Answer}
 use Rattle.walk.specs.declared.Answer.the-variants as Answer
 use Rattle.walk.specs.declared.Asked.the-variants as Asked
 use Rattle.walk.specs.declared.Mapping.{Mapping}
-use Rattle.walk.specs.declared.Numbers.{Numbers}
 use Rattle.walk.specs.declared.Walked.the-variants as Walked
 use Rattle.walk.specs.Walk.{walkAnswer, walkMemory}
 use Rattle.walk.specs.Translate.{asked, answered, numbers}
-use Rattle.walk.proofs.Laws.{by-cases}
 use Rattle.cache.specs.declared.Cache.{Cache}
 use Rattle.cache.specs.declared.Found.the-variants as Found
 use Rattle.cache.specs.declared.Place.{Place}
@@ -30,20 +28,20 @@ use Rattle.cache.specs.Places.{setIndex, filledIn, otherTag, spares, stays, ser
 use Rattle.cache.specs.Sets.{keep, firstServing}
 use Rattle.cache.specs.Whole.{held, emptyCache, findCache, fillCache, loadRoot}
 use Rattle.cache.specs.Whole as Whole
-use Rattle.cache.proofs.Laws.{Sixteen, fill-sixteen, drop-sixteen, root-sixteen, held-fill, held-fill-other, held-drop, held-root, drop-leaves, fill-leaves, root-takes, find-cache, other-serves-not, serves-has}
+use Rattle.cache.proofs.Laws.{Sixteen, fill-sixteen, drop-sixteen, root-sixteen, held-fill, held-fill-other, held-drop, held-root, drop-leaves, fill-leaves, root-takes, find-cache, other-serves-not}
 use Rattle.cache.proofs.Lists.{Each, each-keep, each-kept, each-weaker, passed-by}
 use Rattle.machine.specs.declared.Machine.{Machine}
 use Rattle.machine.specs.Remember.{wanted, placeOf, hit}
 use Rattle.machine.specs.Calls.{Call, Result, step, withCache, withRoot, withSettings, done}
 use Rattle.machine.specs.Calls as Calls
 use Rattle.series.specs.Series.{Event, call, stores, Stand, gives, leads, run, start}
-use Rattle.series.specs.History.{none, succeeded, asks, drops}
-use Rattle.series.specs.Demand.{others, among, counted, Between, again, global, SecondHalf}
+use Rattle.series.specs.History.{Walk, none, walkOf, succeeded, asks, drops}
+use Rattle.series.specs.Demand.{others, among, counted, Between, again, SecondHalf}
 use Rattle.series.proofs.Places.{Alike, found-reads, found-filled, found-serves, found-global}
 use Rattle.series.proofs.Asked.{Due, due, due-again}
 use Rattle.series.proofs.Translations.{Goes, quiet, hits, fills, goes}
 use Rattle.series.proofs.Translations as Ways
-use Rattle.series.proofs.Sound.{Sound, contradiction, root-alike}
+use Rattle.series.proofs.Sound.{contradiction}
 use Rattle.series.proofs.First.{after-series, start-sound}
 use Rattle.series.proofs.Sets.{Few, few-length, few-keep, keep-around, take-around}
 
@@ -61,7 +59,7 @@ spared-others : (q : Place) (ps : List Place) → Each (otherTag (q .tag)) (keep
 unfolding spares
 spared-others q ps = each-keep (otherTag (q .tag)) ps
 
-module _ (t : ℕ) (pages : List ℕ) (at-most : length pages ≤ others) (p : Place) (own : p .tag ≡ t) where
+module _ (t : ℕ) (pages : List ℕ) (at-most : length pages ≤ others) (p : Place) (own : p .tag ≡ t) (w : Walk) (same-global : p .global ≡ w .global) where
   -- a filter of the set that keeps the place
   filtered : (test : Place → Bool) (c c′ : Cache) → test p ≡ true → Sixteen c′ → held (setIndex t) c′ ≡ keep test (held (setIndex t) c)
       → Stays t pages p c → Stays t pages p c′
@@ -94,9 +92,9 @@ module _ (t : ℕ) (pages : List ℕ) (at-most : length pages ≤ others) (p : P
       go : Dec (setIndex t ≡ setIndex (q .tag)) → Stays t pages p (fillCache q c)
       go (yes same) =
           let few′ : Few pages (q ∷ keep (spares q) (k .front)) =
-              (counts (sym same), spared-others q (k .front), few-keep pages (spares q) (k .front) (k .few)) in
+          (counts (sym same), spared-others q (k .front), few-keep pages (spares q) (k .front) (k .few)) in
           let fits = take-around 3 (q ∷ keep (spares q) (k .front)) p (keep (spares q) (k .rest))
-              (omega (arith, few-length (q ∷ keep (spares q) (k .front)) pages few′)) in
+          (omega (arith, few-length (q ∷ keep (spares q) (k .front)) pages few′)) in
           record {
             sixteen = fill-sixteen q c (k .sixteen);
             front = q ∷ keep (spares q) (k .front);
@@ -132,7 +130,7 @@ module _ (t : ℕ) (pages : List ℕ) (at-most : length pages ≤ others) (p : P
     module _ (m : Machine) (memory : List ℕ) (k : Remembers m) where
       -- a call that spares the page
       abbrev Spared : Call → Result → Type 0
-      Spared c r = drops t (p .global) c (r .answer) ≡ false → asks t c ≡ false → counted t pages c (r .answer) ≡ true → Remembers (r .machine)
+      Spared c r = drops t w c (r .answer) ≡ false → asks t c ≡ false → counted t pages c (r .answer) ≡ true → Remembers (r .machine)
 
       -- another page that a walk with success put in the same set is one of the list
       counts : (u : ℕ) (success : Bool) → success ≡ true → (not (success && eqb (setIndex u) (setIndex t)) || among u pages) ≡ true
@@ -170,11 +168,14 @@ module _ (t : ℕ) (pages : List ℕ) (at-most : length pages ≤ others) (p : P
       after-root value = go (served (withRoot (m .settings) value)) refl
         where
           go : (b : Bool) → served (withRoot (m .settings) value) ≡ b
-              → Spared (Calls.root value) (record { answer = cond b done Answer.NotServed;
-              machine = cond b (record { settings = withRoot (m .settings) value; cache = loadRoot (m .cache) }) m; memory = memory })
+              → Spared (Calls.root value) (record {
+                answer = cond b done Answer.NotServed;
+                machine = cond b (record { settings = withRoot (m .settings) value; cache = loadRoot (m .cache) }) m;
+                memory = memory;
+              })
           go true ok = λ no-drop not-asked counting.
               record {
-                stays-in = root-stays (m .cache) (not-false (p .global) no-drop) (k .stays-in);
+                stays-in = root-stays (m .cache) (same-global ∙ not-false (w .global) no-drop) (k .stays-in);
                 alike = record {
                   cr0-same = k .alike .cr0-same;
                   cr4-same = k .alike .cr4-same;
@@ -189,8 +190,11 @@ module _ (t : ℕ) (pages : List ℕ) (at-most : length pages ≤ others) (p : P
       unfolding step Calls.settingsResult
       after-settings cr0 cr4 efer width = go (served (withSettings (m .settings) cr0 cr4 efer width))
         where
-          go : (b : Bool) → Spared (Calls.settings cr0 cr4 efer width) (record { answer = cond b done Answer.NotServed;
-              machine = cond b (record { settings = withSettings (m .settings) cr0 cr4 efer width; cache = emptyCache }) m; memory = memory })
+          go : (b : Bool) → Spared (Calls.settings cr0 cr4 efer width) (record {
+            answer = cond b done Answer.NotServed;
+            machine = cond b (record { settings = withSettings (m .settings) cr0 cr4 efer width; cache = emptyCache }) m;
+            memory = memory;
+          })
           go true = λ no-drop not-asked counting. absurd (false≢true (sym no-drop))
           go false = λ no-drop not-asked counting. k
 
@@ -218,7 +222,7 @@ module _ (t : ℕ) (pages : List ℕ) (at-most : length pages ≤ others) (p : P
       after-call Calls.all = after-all
 
     -- a series that spares the page
-    remembered : (now : Stand) (es : List Event) → Remembers (now .machine) → Between t (p .global) pages now es → Remembers (run now es .machine)
+    remembered : (now : Stand) (es : List Event) → Remembers (now .machine) → Between t w pages now es → Remembers (run now es .machine)
     unfolding run
     remembered now [] k spared = k
     remembered now (call c ∷ es) k spared =
@@ -226,13 +230,13 @@ module _ (t : ℕ) (pages : List ℕ) (at-most : length pages ≤ others) (p : P
     remembered now (stores other ∷ es) k spared = remembered (leads now (stores other)) es k spared
 
     -- where the place serves, it is found
-    found-again : (m : Machine) (w : Wanted) → w .tag ≡ t → serves w p ≡ true → Remembers m → findCache w (m .cache) ≡ Found.At p
-    found-again m w same serving k =
-        find-cache w (m .cache)
-        ∙ ap (λ (u : ℕ). firstServing w (held (setIndex u) (m .cache))) same
-        ∙ ap (firstServing w) (k .stays-in .is-held)
-        ∙ passed-by w (k .stays-in .front) (p ∷ k .stays-in .rest)
-        (each-weaker (otherTag t) (λ q. not (serves w q)) (λ q other. other-serves-not w q (subst (λ (u : ℕ). otherTag u q ≡ true) (sym same) other))
+    found-again : (m : Machine) (x : Wanted) → x .tag ≡ t → serves x p ≡ true → Remembers m → findCache x (m .cache) ≡ Found.At p
+    found-again m x same serving k =
+        find-cache x (m .cache)
+        ∙ ap (λ (u : ℕ). firstServing x (held (setIndex u) (m .cache))) same
+        ∙ ap (firstServing x) (k .stays-in .is-held)
+        ∙ passed-by x (k .stays-in .front) (p ∷ k .stays-in .rest)
+        (each-weaker (otherTag t) (λ q. not (serves x q)) (λ q other. other-serves-not x q (subst (λ (u : ℕ). otherTag u q ≡ true) (sym same) other))
         (k .stays-in .front) (k .stays-in .apart))
         ∙ rw serving
 
@@ -252,8 +256,8 @@ again-numbers : (s : Settings) (first later : VirtAddr) (a : Access) (f : Mappin
 again-numbers s first later a f =
     ap (λ (x : ℕ). record { answer = 0; value = x; detail = f .size; reads = 0 }) (piece (f .base .0 + offset first (f .size)) (later .0))
 
-module _ (now : Stand) (sixteen : Sixteen (now .machine .cache)) (between : List Event) (first later : VirtAddr) (access mode : ℕ)
-    (pages : List ℕ) (same : tag later ≡ tag first) (at-most : length pages ≤ others) where
+module _ (now : Stand) (sixteen : Sixteen (now .machine .cache)) (first later : VirtAddr) (access mode : ℕ) (pages : List ℕ)
+    (between : List Event) (same : tag later ≡ tag first) (at-most : length pages ≤ others) where
   abbrev s : Settings
   s = now .machine .settings
 
@@ -261,13 +265,16 @@ module _ (now : Stand) (sixteen : Sixteen (now .machine .cache)) (between : List
   abbrev Promise : Result → Type 0
   Promise r =
       succeeded (r .answer) ≡ true
-      → Between (tag first) (global now first) pages (record { machine = r .machine; memory = r .memory }) between
+      → Between (tag first) (walkOf s first (now .memory) (r .memory)) pages (record { machine = r .machine; memory = r .memory }) between
       → numbers (gives (run (record { machine = r .machine; memory = r .memory }) between) (Calls.translate later access mode) .answer)
       ≡ again (numbers (r .answer)) later
 
   after-fill : (a : Access) (f : Mapping) → asked s first access mode ≡ Asked.On a → walkAnswer s first a (now .memory) ≡ Walked.Mapped f
-      → Promise (record { answer = answered s first a (Walked.Mapped f); machine = withCache (now .machine) (fillCache (placeOf s first a f) (now .machine .cache));
-      memory = walkMemory s first a (now .memory) })
+      → Promise (record {
+        answer = answered s first a (Walked.Mapped f);
+        machine = withCache (now .machine) (fillCache (placeOf s first a f) (now .machine .cache));
+        memory = walkMemory s first a (now .memory);
+      })
   after-fill a f on found success spared =
       ap numbers (hit-result (end .machine) (end .memory) later access mode a (placeOf s first a f) on-later find-later)
       ∙ again-numbers s first later a f
@@ -278,13 +285,19 @@ module _ (now : Stand) (sixteen : Sixteen (now .machine .cache)) (between : List
       end : Stand
       end = run (record { machine = filled-now; memory = walkMemory s first a (now .memory) }) between
 
+      its-walk : Walk
+      its-walk = walkOf s first (now .memory) (walkMemory s first a (now .memory))
+
+      its-global : placeOf s first a f .global ≡ its-walk .global
+      its-global = found-global s first a (now .memory) f found (walkMemory s first a (now .memory))
+
       is-due : Due s first access mode a
       is-due = due s first access mode a on
 
       is-filled : filledIn (setIndex (tag first)) (placeOf s first a f) ≡ true
       is-filled = found-filled s first a (now .memory) f found (is-due .is-canonical)
 
-      at-first : Remembers (tag first) pages at-most (placeOf s first a f) refl s filled-now
+      at-first : Remembers (tag first) pages at-most (placeOf s first a f) refl its-walk its-global s filled-now
       at-first =
           record {
             stays-in = record {
@@ -299,19 +312,18 @@ module _ (now : Stand) (sixteen : Sixteen (now .machine .cache)) (between : List
             serving = is-due .is-served;
           }
 
-      at-end : Remembers (tag first) pages at-most (placeOf s first a f) refl s (end .machine)
+      at-end : Remembers (tag first) pages at-most (placeOf s first a f) refl its-walk its-global s (end .machine)
       at-end =
-          remembered (tag first) pages at-most (placeOf s first a f) refl s
+          remembered (tag first) pages at-most (placeOf s first a f) refl its-walk its-global s
           (record { machine = filled-now; memory = walkMemory s first a (now .memory) }) between at-first
-          (subst (λ (g : Bool). Between (tag first) g pages (record { machine = filled-now; memory = walkMemory s first a (now .memory) }) between)
-          (sym (found-global s first a (now .memory) f found (now .memory))) spared)
+          spared
 
       on-later : asked (end .machine .settings) later access mode ≡ Asked.On a
       on-later = due-again s (end .machine .settings) first later access mode a (at-end .alike) (at-end .serving) (sym same) is-due
 
       find-later : findCache (wanted (end .machine .settings) later a) (end .machine .cache) ≡ Found.At (placeOf s first a f)
       find-later =
-          found-again (tag first) pages at-most (placeOf s first a f) refl s (end .machine) (wanted (end .machine .settings) later a) same
+          found-again (tag first) pages at-most (placeOf s first a f) refl its-walk its-global s (end .machine) (wanted (end .machine .settings) later a) same
           (found-serves s first a (now .memory) f found (end .machine .settings) later (at-end .alike) (sym same)) at-end
 
   promised : Goes (now .machine) (now .memory) first access mode → Promise (gives now (Calls.translate first access mode))
@@ -323,9 +335,9 @@ module _ (now : Stand) (sixteen : Sixteen (now .machine .cache)) (between : List
 
 -- the second half
 pub second-half : SecondHalf
-second-half s memory series between first later access mode pages success same at-most spared =
+second-half s memory series first later access mode pages between success same at-most spared =
     promised (run (start s memory) series)
     (after-series (tag first) (length memory) (start s memory) none (start-sound (tag first) s memory) series .sixteen)
-    between first later access mode pages same at-most
+    first later access mode pages between same at-most
     (goes (run (start s memory) series .machine) (run (start s memory) series .memory) first access mode)
     success spared

@@ -1,16 +1,16 @@
 -- A place in a set behind places of few other pages: a fill of one of those pages, and every drop of another, leaves it there.
 use Prim.Native.Nat.{ℕ, zero, suc, _+_, _≤_, _<_}
 use native.Mathlib.Omega.{arith}
-use mathlib.Core.Path.{_≡_, refl, sym, ap, subst, _∙_}
-use mathlib.Core.Bool.{Bool, true, false, not, _&&_, _||_, cond}
+use mathlib.Core.Path.{_≡_, refl, sym, ap, _∙_}
+use mathlib.Core.Bool.{Bool, true, false, _||_, cond}
 use mathlib.Core.List.{List, [], _∷_, _++_}
-use borrow.Author.Tests.{eqb-true, eqb-false, not-true, eq-eqb, ne-eqb}
+use borrow.Author.Tests.{eqb-true, eqb-false, not-true}
 use lib.Dec.{eqb}
 use lib.ListN.{length, take}
 use Rattle.cache.specs.declared.Place.{Place}
 use Rattle.cache.specs.Places.{otherTag}
 use Rattle.cache.specs.Sets.{keep, pick}
-use Rattle.cache.proofs.Lists.{Each, each-kept, each-keep}
+use Rattle.cache.proofs.Lists.{Each, each-kept}
 use Rattle.series.specs.Demand.{among}
 
 -- the pages of a list without one

@@ -1,47 +1,29 @@
 -- Where a series stands soundly: every place of a page that the cache holds is backed by the latest walk of the page.
-use Prim.Native.Nat.{ℕ, _≤_}
+use Prim.Native.Nat.{ℕ}
 use native.Mathlib.Decide.{ℕ-discrete}
-use native.Mathlib.Omega.{arith}
-use mathlib.Core.Path.{_≡_, refl, sym, ap, ap₂, subst, _∙_}
+use mathlib.Core.Path.{_≡_, refl, sym, ap, subst, _∙_}
 use mathlib.Core.Bool.{Bool, true, false, not, _&&_, cond, false≢true}
-use mathlib.Core.List.{List, [], _∷_}
-use borrow.Author.Tests.{eqb-true, eqb-false, eq-eqb, ne-eqb}
+use mathlib.Core.List.{List, _∷_}
 use lib.Dec.{eqb}
-use lib.ListN.{length, take}
-use Rattle.word.specs.Bytes.{inside, stored, store}
-use Rattle.word.proofs.Laws.{store-length}
+use lib.ListN.{length}
 use Rattle.settings.specs.declared.Settings.{Settings}
-use Rattle.settings.specs.Settings.{root, served}
+use Rattle.settings.specs.Settings.{root}
 use Rattle.address.specs.declared.VirtAddr.{VirtAddr}
-use Rattle.address.specs.Address.{tag, canonical}
-use Rattle.walk.specs.declared.Access.{Access}
+use Rattle.address.specs.Address.{tag}
 use Rattle.walk.specs.declared.Answer.{Answer}
-use Rattle.walk.specs.declared.Answer.the-variants as Answer
-use Rattle.walk.specs.declared.Asked.the-variants as Asked
-use Rattle.walk.specs.declared.Mapping.{Mapping}
-use Rattle.walk.specs.declared.Walked.the-variants as Walked
-use Rattle.walk.specs.Walk.{walkPath, walkAnswer, walkMemory}
-use Rattle.walk.specs.Translate.{asked, answered}
-use Rattle.walk.proofs.Laws.{by-cases}
 use Rattle.cache.specs.declared.Cache.{Cache}
 use Rattle.cache.specs.declared.Place.{Place}
 use Rattle.cache.specs.Places.{setIndex, filledIn, otherTag, spares, stays}
 use Rattle.cache.specs.Sets.{keep}
 use Rattle.cache.specs.Whole.{held, emptyCache, fillCache, loadRoot}
 use Rattle.cache.specs.Whole as Whole
-use Rattle.cache.proofs.Laws.{Sixteen, empty-sixteen, fill-sixteen, drop-sixteen, root-sixteen, held-empty, held-fill, held-fill-other, held-drop, held-root, drop-takes, fill-takes, root-takes}
-use Rattle.machine.specs.declared.Machine.{Machine}
-use Rattle.machine.specs.Remember.{placeOf, hit}
-use Rattle.machine.specs.Calls.{Call, Result, step, withCache, only, withRoot, withSettings, loadAnswer, loaded, done, started}
+use Rattle.cache.proofs.Laws.{Sixteen, held-empty, held-fill, held-fill-other, held-drop, held-root, drop-takes, fill-takes, root-takes}
+use Rattle.machine.specs.Calls.{Call, withRoot}
 use Rattle.machine.specs.Calls as Calls
-use Rattle.series.specs.Series.{Event, call, stores, Stand, replaced, gives, leads, run, start}
-use Rattle.series.specs.History.{Walk, Latest, none, walk, walkOf, succeeded, faulted, accepted, drops, forget, kept, noted, notedEvent, latest}
-use Rattle.series.proofs.Marking.{marks-length}
-use Rattle.series.proofs.Places.{Alike, Backs, backs-global, found-reads, found-memory, found-filled}
-use Rattle.series.proofs.Asked.{Due, due, served-wide}
-use Rattle.series.proofs.Translations.{Goes, quiet, hits, fills, goes}
-use Rattle.series.proofs.Translations as Ways
-use Rattle.series.proofs.Lists.{Has, has-keep, has-take, has-map, keep-has}
+use Rattle.series.specs.Series.{Stand}
+use Rattle.series.specs.History.{Walk, Latest, none, walk, walkOf, succeeded, faulted, accepted, drops, kept, noted}
+use Rattle.series.proofs.Places.{Alike, Backs, backs-global}
+use Rattle.series.proofs.Lists.{Has, has-keep, has-take, keep-has}
 
 -- a place is backed by the latest walk of its page
 abbrev pub Backed : Settings → ℕ → Latest → Place → Type 0
@@ -61,9 +43,9 @@ pub record Sound (t size : ℕ) (now : Stand) (w : Latest) : Type 0 where
 -- What is known of a page after a call.
 
 -- a call that drops nothing leaves what is known
-pub kept-all : (t : ℕ) (c : Call) (r : Answer) (w : Latest) → ((global : Bool) → drops t global c r ≡ false) → kept t c r w ≡ w
+pub kept-all : (t : ℕ) (c : Call) (r : Answer) (w : Latest) → ((v : Walk) → drops t v c r ≡ false) → kept t c r w ≡ w
 kept-all t c r none h = refl
-kept-all t c r (walk v) h = ap (λ (b : Bool). forget b v) (h (v .global))
+kept-all t c r (walk v) h = ap (λ (b : Bool). cond b none (walk v)) (h v)
 
 module _ (t : ℕ) (s : Settings) (before after : List ℕ) (address : VirtAddr) (access mode : ℕ) (r : Answer) (w : Latest) where
   abbrev this : Call
@@ -73,11 +55,11 @@ module _ (t : ℕ) (s : Settings) (before after : List ℕ) (address : VirtAddr)
   noted-quiet no-success no-fault = go (eqb (tag address) t) refl
     where
       go : (b : Bool) → eqb (tag address) t ≡ b → cond (b && succeeded r) (walk (walkOf s address before after)) (kept t this r w) ≡ w
-      go true e = rw no-success (kept-all t this r w (λ global. rw (e, no-fault)))
-      go false e = kept-all t this r w (λ global. rw e)
+      go true e = rw no-success (kept-all t this r w (λ v. rw (e, no-fault)))
+      go false e = kept-all t this r w (λ v. rw e)
 
   pub noted-other : eqb (tag address) t ≡ false → noted t s before this r after w ≡ w
-  noted-other e = rw e (kept-all t this r w (λ global. rw e))
+  noted-other e = rw e (kept-all t this r w (λ v. rw e))
 
   pub noted-walk : eqb (tag address) t ≡ true → succeeded r ≡ true → noted t s before this r after w ≡ walk (walkOf s address before after)
   noted-walk e success = rw (e, success)
@@ -120,9 +102,10 @@ module _ (t size : ℕ) (s : Settings) (w : Latest) (c : Cache) (sixteen : Sixte
       go (yes same) =
           subst (λ (i : ℕ). Has (Own t s size w) (held i (fillCache p c))) (sym same)
           (subst (Has (Own t s size w)) (sym (held-fill p c sixteen is-filled))
-          (has-take (Own t s size w) 4 (p ∷ keep (spares p) (held (setIndex (p .tag)) c))
-          ((λ tag-same. absurd (other tag-same)),
-          has-keep (spares p) (λ q spared own. own) (held (setIndex (p .tag)) c) (subst (λ (i : ℕ). Has (Own t s size w) (held i c)) same h))))
+          (has-take (Own t s size w) 4 (p ∷ keep (spares p) (held (setIndex (p .tag)) c)) (
+            (λ tag-same. absurd (other tag-same)),
+            has-keep (spares p) (λ q spared own. own) (held (setIndex (p .tag)) c) (subst (λ (i : ℕ). Has (Own t s size w) (held i c)) same h),
+          )))
       go (no apart) = subst (Has (Own t s size w)) (sym (held-fill-other p c (setIndex t) apart)) h
 
 -- settings with another root back what was backed
@@ -161,6 +144,6 @@ rooted t size s value w r c sixteen ok h =
     stay none p is-global own same = own same
     stay (walk v) p is-global own same = go (v .global) refl (own same)
       where
-        go : (b : Bool) → v .global ≡ b → Backs s size v p → Backed (withRoot s value) size (forget (accepted r && not b) v) p
+        go : (b : Bool) → v .global ≡ b → Backs s size v p → Backed (withRoot s value) size (cond (accepted r && not b) none (walk v)) p
         go true e k = rw ok (alike-backs s (withRoot s value) size v p (root-alike s value) k)
         go false e k = contradiction (sym (root-takes p) ∙ is-global) (backs-global s size v p k ∙ e)

@@ -1,38 +1,29 @@
 -- The four ways that a translation goes: no walk is due, a hit, a walk that fills, a walk that drops.
-use Prim.Native.Nat.{ℕ, _≤_}
-use native.Mathlib.Nat.{le-trans}
-use native.Mathlib.Omega.{arith}
-use mathlib.Core.Path.{_≡_, refl, sym, ap, ap₂, _∙_}
-use mathlib.Core.Bool.{Bool, true, false, not, _&&_, _||_, cond}
+use Prim.Native.Nat.{ℕ}
+use mathlib.Core.Path.{_≡_, refl}
+use mathlib.Core.Bool.{true, false}
 use mathlib.Core.List.{List}
-use borrow.Author.Tests.{leb-true}
-use lib.Dec.{leb, ltb}
 use Rattle.settings.specs.declared.Settings.{Settings}
-use Rattle.settings.specs.Settings.{served, pg, widthServed, rootServed, modeServed, extensionsServed}
-use Rattle.address.specs.declared.PhysAddr.{PhysAddr}
 use Rattle.address.specs.declared.VirtAddr.{VirtAddr}
-use Rattle.address.specs.Address.{tag, canonical}
+use Rattle.address.specs.Address.{tag}
 use Rattle.walk.specs.declared.Access.{Access}
 use Rattle.walk.specs.declared.Answer.{Answer}
 use Rattle.walk.specs.declared.Answer.the-variants as Answer
 use Rattle.walk.specs.declared.Asked.{Asked}
 use Rattle.walk.specs.declared.Asked.the-variants as Asked
-use Rattle.walk.specs.declared.Cause.{Cause}
 use Rattle.walk.specs.declared.Mapping.{Mapping}
 use Rattle.walk.specs.declared.Walked.{Walked}
 use Rattle.walk.specs.declared.Walked.the-variants as Walked
-use Rattle.walk.specs.Access.{known, accessOf}
-use Rattle.walk.specs.Walk.{after, walkPath, walkAnswer, walkMemory}
-use Rattle.walk.specs.Translate.{asked, askedOn, askedOff, answered, fresh, freshMemory, translated, translatedMemory}
+use Rattle.walk.specs.Walk.{after, walkAnswer, walkMemory}
+use Rattle.walk.specs.Translate.{asked, answered, fresh, translated, translatedMemory}
 use Rattle.cache.specs.declared.Found.{Found}
 use Rattle.cache.specs.declared.Found.the-variants as Found
 use Rattle.cache.specs.declared.Place.{Place}
 use Rattle.cache.specs.Whole.{findCache, fillCache}
 use Rattle.cache.specs.Whole as Whole
-use Rattle.cache.proofs.Lists.{and-true}
 use Rattle.machine.specs.declared.Machine.{Machine}
 use Rattle.machine.specs.Remember.{wanted, placeOf, hit}
-use Rattle.machine.specs.Calls.{Result, step, withCache, only, askedResult, foundResult}
+use Rattle.machine.specs.Calls.{Result, step, withCache, only}
 use Rattle.machine.specs.Calls as Calls
 use Rattle.series.specs.History.{succeeded, faulted}
 

@@ -1,8 +1,8 @@
 -- An entry's value and the same with Accessed or Dirty set since: what an entry says and gives does not look at those two bits.
-use Prim.Native.Nat.{ℕ, zero, suc, _+_, _-_, _*_, _/_, _%_, _^_, _≤_, _<_}
-use native.Mathlib.Nat.{le-refl, le-trans, div-div-eq-div-mul, sub-add-cancel}
+use Prim.Native.Nat.{ℕ, _+_, _-_, _*_, _/_, _%_, _^_, _≤_}
+use native.Mathlib.Nat.{le-refl, le-trans, div-div-eq-div-mul}
 use native.Mathlib.Omega.{arith}
-use mathlib.Core.Path.{_≡_, refl, sym, ap, ap₂, _∙_}
+use mathlib.Core.Path.{_≡_, refl, sym, ap, _∙_}
 use mathlib.Core.Bool.{Bool, true, false, not, _&&_, _||_, cond}
 use lib.Pow.{pow-add}
 use lib.Dec.{eqb, leb, ltb, lit≤}
@@ -12,7 +12,7 @@ use Rattle.entry.specs.declared.Says.the-variants.{Missing, Reserved, Table, Pa
 use Rattle.entry.specs.Says.{says, largest}
 use Rattle.entry.specs.Mark.{markByte}
 use Rattle.address.specs.Address.{pageBits}
-use Rattle.series.specs.Demand.{Since, setOr}
+use Rattle.series.specs.Holds.{Since, accessedSince, dirtySince}
 
 -- a value that another became: A and D set or as they were, every other bit as it was
 pub record Grown (v v′ : ℕ) : Type 0 where
@@ -48,7 +48,7 @@ pub set-6 : (v : ℕ) → v / 64 % 2 ≡ 1 → withBit 6 v ≡ v
 set-6 v h = omega arith
 
 -- "save Accessed or Dirty bits set since"
-since-grown : (accessed dirty : Bool) (v : ℕ) → Grown v (setOr dirty 6 (setOr accessed 5 v))
+since-grown : (accessed dirty : Bool) (v : ℕ) → Grown v (dirtySince dirty (accessedSince accessed v))
 since-grown true true v = grown-trans (grown-5 v) (grown-6 (withBit 5 v))
 since-grown true false v = grown-5 v
 since-grown false true v = grown-6 v

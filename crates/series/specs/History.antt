@@ -1,10 +1,9 @@
 -- The latest successful walk of a page since it was last dropped: computed from calls, answers and memory, never from the cache.
 use Prim.Native.Nat.{ℕ}
-use mathlib.Core.Path.{_≡_}
 use mathlib.Core.Bool.{Bool, true, false, not, _&&_, cond}
 use mathlib.Core.List.{List, [], _∷_}
 use lib.Dec.{eqb}
-use Rattle.word.specs.Bits.{bit, withBit}
+use Rattle.word.specs.Bits.{bit}
 use Rattle.word.specs.Bytes.{load}
 use Rattle.settings.specs.declared.Settings.{Settings}
 use Rattle.settings.specs.Settings.{pge, root}
@@ -14,7 +13,7 @@ use Rattle.walk.specs.declared.Answer.{Answer}
 use Rattle.walk.specs.declared.Answer.the-variants as Answer
 use Rattle.walk.specs.Path.{Entry, End, outside, missing, reserved, page, entries, endOf}
 use Rattle.walk.specs.Walk.{walkPath}
-use Rattle.machine.specs.Calls.{Call, Result}
+use Rattle.machine.specs.Calls.{Call}
 use Rattle.machine.specs.Calls as Calls
 use Rattle.series.specs.Series.{Event, call, stores, Stand, gives, leads}
 
@@ -59,7 +58,7 @@ succeeded Answer.Form = false
 succeeded (Answer.Outside at l n) = false
 succeeded (Answer.Fault c l n) = false
 
--- "a translation's 4 or 5 drops the asked page"
+-- "a translation's 4 or 5 drops the asked page", read off its answer
 abbrev pub faulted : Answer → Bool
 faulted (Answer.Done at size n) = false
 faulted Answer.Unknown = false
@@ -68,7 +67,7 @@ faulted Answer.Form = false
 faulted (Answer.Outside at l n) = true
 faulted (Answer.Fault c l n) = true
 
--- a load that was accepted
+-- a load that is accepted, read off its answer: 0
 abbrev pub accepted : Answer → Bool
 accepted (Answer.Done at size n) = true
 accepted Answer.Unknown = false
@@ -86,28 +85,24 @@ asks t (Calls.settings cr0 cr4 efer width) = false
 asks t (Calls.page address) = false
 asks t Calls.all = false
 
--- a call that drops page t, whose latest walk's page is G or not; to fall out at the end of a set is no drop
-abbrev pub drops : ℕ → Bool → Call → Answer → Bool
-drops t global (Calls.translate address access mode) r = eqb (tag address) t && faulted r
-drops t global (Calls.store at value) r = false
-drops t global (Calls.root value) r = accepted r && not global
-drops t global (Calls.settings cr0 cr4 efer width) r = accepted r
-drops t global (Calls.page address) r = canonical address && eqb (tag address) t
-drops t global Calls.all r = true
+-- a call that drops page t, whose latest successful walk is w; to fall out at the end of a set is no drop
+abbrev pub drops : ℕ → Walk → Call → Answer → Bool
+drops t w (Calls.translate address access mode) r = eqb (tag address) t && faulted r
+drops t w (Calls.store at value) r = false
+drops t w (Calls.root value) r = accepted r && not (w .global)
+drops t w (Calls.settings cr0 cr4 efer width) r = accepted r
+drops t w (Calls.page address) r = canonical address && eqb (tag address) t
+drops t w Calls.all r = true
 
 -- what is known of a page: no successful walk since it was last dropped, or the latest such walk
 pub data Latest : Type 0 where
   none : Latest
   walk : Walk → Latest
 
--- a walk is forgotten where its page is dropped
-abbrev pub forget : Bool → Walk → Latest
-forget dropped w = cond dropped none (walk w)
-
--- the latest walk of page t after a call that did not walk it with success
+-- the latest walk of page t after a call that does not walk it with success: forgotten where the page is dropped
 abbrev pub kept : ℕ → Call → Answer → Latest → Latest
 kept t c r none = none
-kept t c r (walk w) = forget (drops t (w .global) c r) w
+kept t c r (walk w) = cond (drops t w c r) none (walk w)
 
 -- the latest walk of page t after a call, from settings and memory before it, its answer and memory after it
 abbrev pub noted : ℕ → Settings → List ℕ → Call → Answer → List ℕ → Latest → Latest

@@ -1,3 +1,4 @@
 pub mod Demand
 pub mod History
+pub mod Holds
 pub mod Series
