@@ -1,0 +1,286 @@
+-- The first half: a series stands soundly from the start on, so a hit is what a fresh walk gives.
+use Prim.Native.Nat.{ℕ}
+use native.Mathlib.Omega.{arith}
+use mathlib.Core.Path.{_≡_, refl, sym, ap, subst, _∙_}
+use mathlib.Core.Bool.{Bool, true, false, not, cond}
+use mathlib.Core.List.{List, [], _∷_}
+use borrow.Author.Tests.{eqb-true, eqb-false, ne-eqb}
+use lib.Dec.{eqb}
+use lib.ListN.{length}
+use Rattle.word.specs.Bytes.{inside, stored, store}
+use Rattle.word.proofs.Laws.{store-length}
+use Rattle.settings.specs.declared.Settings.{Settings}
+use Rattle.settings.specs.Settings.{root, served}
+use Rattle.address.specs.declared.VirtAddr.{VirtAddr}
+use Rattle.address.specs.Address.{tag, canonical}
+use Rattle.walk.specs.declared.Access.{Access}
+use Rattle.walk.specs.declared.Answer.{Answer}
+use Rattle.walk.specs.declared.Answer.the-variants as Answer
+use Rattle.walk.specs.declared.Asked.the-variants as Asked
+use Rattle.walk.specs.declared.Mapping.{Mapping}
+use Rattle.walk.specs.declared.Walked.the-variants as Walked
+use Rattle.walk.specs.Walk.{walkPath, walkAnswer, walkMemory}
+use Rattle.walk.specs.Translate.{asked, answered}
+use Rattle.walk.proofs.Laws.{by-cases}
+use Rattle.cache.specs.declared.Place.{Place}
+use Rattle.cache.specs.Places.{setIndex, filledIn}
+use Rattle.cache.specs.Whole.{held, emptyCache, fillCache, loadRoot}
+use Rattle.cache.specs.Whole as Whole
+use Rattle.cache.proofs.Laws.{Sixteen, empty-sixteen, fill-sixteen, drop-sixteen, root-sixteen}
+use Rattle.machine.specs.declared.Machine.{Machine}
+use Rattle.machine.specs.Remember.{placeOf, hit}
+use Rattle.machine.specs.Calls.{Call, Result, step, withCache, withRoot, withSettings, done, started}
+use Rattle.machine.specs.Calls as Calls
+use Rattle.series.specs.Series.{Event, call, stores, Stand, replaced, leads, run, start}
+use Rattle.series.specs.History.{Latest, none, walk, walkOf, drops, kept, noted, notedEvent, latest}
+use Rattle.series.proofs.Marking.{marks-length}
+use Rattle.series.proofs.Places.{Backs, found-reads, found-memory, found-filled}
+use Rattle.series.proofs.Asked.{Due, due, served-wide}
+use Rattle.series.proofs.Translations.{Goes, quiet, hits, fills, goes}
+use Rattle.series.proofs.Translations as Ways
+use Rattle.series.proofs.Lists.{Has}
+use Rattle.series.proofs.Sound.{Own, Sound, kept-all, noted-quiet, noted-other, noted-walk, dropped-own, dropped-any, emptied, filled-own, filled-other, rooted}
+
+module _ (t size : ℕ) (m : Machine) (memory : List ℕ) (w : Latest) (sound : Sound t size (record { machine = m; memory = memory }) w) where
+  abbrev s : Settings
+  s = m .settings
+
+  -- what a result leads to
+  abbrev Next : Call → Result → Type 0
+  Next c r = Sound t size (record { machine = r .machine; memory = r .memory }) (noted t s memory c (r .answer) (r .memory) w)
+
+  -- a result that changes nothing and drops nothing
+  unchanged : (c : Call) (r : Answer) (after : List ℕ) → length after ≡ length memory → noted t s memory c r after w ≡ w
+      → Next c (record { answer = r; machine = m; memory = after })
+  unchanged c r after long same =
+      subst (Sound t size (record { machine = m; memory = after })) (sym same)
+      (record { sixteen = sound .sixteen; as-long = long ∙ sound .as-long; backed = sound .backed })
+
+  module _ (address : VirtAddr) (access mode : ℕ) where
+    abbrev this : Call
+    this = Calls.translate address access mode
+
+    after-drop : (r : Answer) → Next this (record { answer = r; machine = withCache m (Whole.dropPage (tag address) (m .cache)); memory = memory })
+    after-drop r = by-cases (eqb (tag address) t) own other
+      where
+        own : eqb (tag address) t ≡ true → Next this (record { answer = r; machine = withCache m (Whole.dropPage (tag address) (m .cache)); memory = memory })
+        own same =
+            record {
+              sixteen = drop-sixteen (tag address) (m .cache) (sound .sixteen);
+              as-long = sound .as-long;
+              backed =
+                  subst (λ (u : ℕ). Has (Own t s size (noted t s memory this r memory w)) (held (setIndex t) (Whole.dropPage u (m .cache))))
+                  (sym (eqb-true (tag address) t same))
+                  (dropped-own t size s (noted t s memory this r memory w) (m .cache) (sound .sixteen));
+            }
+
+        other : eqb (tag address) t ≡ false → Next this (record { answer = r; machine = withCache m (Whole.dropPage (tag address) (m .cache)); memory = memory })
+        other apart =
+            subst (Sound t size (record { machine = withCache m (Whole.dropPage (tag address) (m .cache)); memory = memory }))
+            (sym (noted-other t s memory memory address access mode r w apart))
+            (record {
+              sixteen = drop-sixteen (tag address) (m .cache) (sound .sixteen);
+              as-long = sound .as-long;
+              backed = dropped-any t size s w (m .cache) (sound .sixteen) (tag address) (sound .backed);
+            })
+
+    after-fill : (a : Access) (f : Mapping) → asked s address access mode ≡ Asked.On a → walkAnswer s address a memory ≡ Walked.Mapped f
+        → Next this (record { answer = answered s address a (Walked.Mapped f); machine = withCache m (fillCache (placeOf s address a f) (m .cache)); memory = walkMemory s address a memory })
+    after-fill a f on is = by-cases (eqb (tag address) t) own other
+      where
+        new : Place
+        new = placeOf s address a f
+
+        left : List ℕ
+        left = walkMemory s address a memory
+
+        r : Answer
+        r = answered s address a (Walked.Mapped f)
+
+        is-due : Due s address access mode a
+        is-due = due s address access mode a on
+
+        is-filled : filledIn (setIndex (tag address)) (placeOf s address a f) ≡ true
+        is-filled = found-filled s address a memory f is (is-due .is-canonical)
+
+        six : Sixteen (fillCache (placeOf s address a f) (m .cache))
+        six = fill-sixteen (placeOf s address a f) (m .cache) (sound .sixteen)
+
+        long : length (walkMemory s address a memory) ≡ size
+        long =
+            ap (λ (x : List ℕ). length x) (found-memory s address a memory f is) ∙ marks-length (a .write) (walkPath s address memory) memory
+            ∙ sound .as-long
+
+        success : not (eqb (f .reads) 0) ≡ true
+        success = ap not (ne-eqb (f .reads) 0 (λ e. omega (arith, found-reads s address a memory f is)))
+
+        backs : Backs s size (walkOf s address memory (walkMemory s address a memory)) (placeOf s address a f)
+        backs =
+            record {
+              under = s;
+              at = address;
+              how = a;
+              memory = memory;
+              found = f;
+              alike = record { cr0-same = refl; cr4-same = refl; efer-same = refl; width-same = refl };
+              wide = served-wide s (is-due .is-served);
+              as-long = sound .as-long;
+              walk-found = is;
+              is-place = refl;
+              is-walk = refl;
+            }
+
+        own : eqb (tag address) t ≡ true
+            → Next this (record { answer = answered s address a (Walked.Mapped f); machine = withCache m (fillCache (placeOf s address a f) (m .cache)); memory = walkMemory s address a memory })
+        own same =
+            subst (Sound t size (record { machine = withCache m (fillCache (placeOf s address a f) (m .cache)); memory = walkMemory s address a memory }))
+            (sym (noted-walk t s memory (walkMemory s address a memory) address access mode (answered s address a (Walked.Mapped f)) w same success))
+            (record {
+              sixteen = six;
+              as-long = long;
+              backed =
+                  filled-own t size s (walk (walkOf s address memory (walkMemory s address a memory))) (m .cache) (sound .sixteen)
+                  (placeOf s address a f) (eqb-true (tag address) t same) is-filled backs;
+            })
+
+        other : eqb (tag address) t ≡ false
+            → Next this (record { answer = answered s address a (Walked.Mapped f); machine = withCache m (fillCache (placeOf s address a f) (m .cache)); memory = walkMemory s address a memory })
+        other apart =
+            subst (Sound t size (record { machine = withCache m (fillCache (placeOf s address a f) (m .cache)); memory = walkMemory s address a memory }))
+            (sym (noted-other t s memory (walkMemory s address a memory) address access mode (answered s address a (Walked.Mapped f)) w apart))
+            (record {
+              sixteen = six;
+              as-long = long;
+              backed =
+                  filled-other t size s w (m .cache) (sound .sixteen) (placeOf s address a f) (eqb-false (tag address) t apart) is-filled (sound .backed);
+            })
+
+    -- a translation
+    translation : Goes m memory address access mode → Next this (step m memory this)
+    translation (quiet r no-success no-fault is fresh-is left-is) =
+        subst (Next this) (sym is) (unchanged this r memory refl (noted-quiet t s memory memory address access mode r w no-success no-fault))
+    translation (hits a p found is fresh-is left-is) =
+        subst (Next this) (sym is) (unchanged this (hit address p) memory refl (noted-quiet t s memory memory address access mode (hit address p) w refl refl))
+    translation (fills a f on found is fresh-is left-is) = subst (Next this) (sym is) (after-fill a f on found)
+    translation (Ways.drops r no-success fault is fresh-is left-is) = subst (Next this) (sym is) (after-drop r)
+
+  -- a store
+  after-store : (at value : ℕ) → Next (Calls.store at value) (step m memory (Calls.store at value))
+  unfolding step Calls.storedResult
+  after-store at value =
+      unchanged (Calls.store at value) (cond (inside memory at) done (Answer.Outside (record { 0 = at }) 0 0)) (stored memory at value) (long (inside memory at))
+      (kept-all t (Calls.store at value) (cond (inside memory at) done (Answer.Outside (record { 0 = at }) 0 0)) w (λ v. refl))
+    where
+      long : (b : Bool) → length (cond b (store 8 memory at value) memory) ≡ length memory
+      long true = store-length 8 memory at value
+      long false = refl
+
+  -- a root load
+  after-root : (value : ℕ) → Next (Calls.root value) (step m memory (Calls.root value))
+  unfolding step Calls.rootResult
+  after-root value = go (served (withRoot s value))
+    where
+      go : (b : Bool) → Next (Calls.root value)
+          (record { answer = cond b done Answer.NotServed; machine = cond b (record { settings = withRoot s value; cache = loadRoot (m .cache) }) m; memory = memory })
+      go true =
+          record {
+            sixteen = root-sixteen (m .cache);
+            as-long = sound .as-long;
+            backed = rooted t size s value w done (m .cache) (sound .sixteen) refl (sound .backed);
+          }
+      go false = unchanged (Calls.root value) Answer.NotServed memory refl (kept-all t (Calls.root value) Answer.NotServed w (λ v. refl))
+
+  -- a settings load
+  after-settings : (cr0 cr4 efer width : ℕ) → Next (Calls.settings cr0 cr4 efer width) (step m memory (Calls.settings cr0 cr4 efer width))
+  unfolding step Calls.settingsResult
+  after-settings cr0 cr4 efer width = go (served (withSettings s cr0 cr4 efer width))
+    where
+      go : (b : Bool) → Next (Calls.settings cr0 cr4 efer width)
+          (record { answer = cond b done Answer.NotServed; machine = cond b (record { settings = withSettings s cr0 cr4 efer width; cache = emptyCache }) m; memory = memory })
+      go true =
+          record {
+            sixteen = empty-sixteen;
+            as-long = sound .as-long;
+            backed =
+                emptied t size (withSettings s cr0 cr4 efer width) (kept t (Calls.settings cr0 cr4 efer width) done w) (m .cache) (sound .sixteen);
+          }
+      go false =
+          unchanged (Calls.settings cr0 cr4 efer width) Answer.NotServed memory refl
+          (kept-all t (Calls.settings cr0 cr4 efer width) Answer.NotServed w (λ v. refl))
+
+  -- "drop all"
+  after-all : Next Calls.all (step m memory Calls.all)
+  unfolding step Calls.allResult
+  after-all =
+      record { sixteen = empty-sixteen; as-long = sound .as-long; backed = emptied t size s (kept t Calls.all done w) (m .cache) (sound .sixteen) }
+
+  -- "drop page"
+  after-page : (address : VirtAddr) → Next (Calls.page address) (step m memory (Calls.page address))
+  unfolding step Calls.pageResult
+  after-page address = go (canonical address) refl
+    where
+      go : (b : Bool) → canonical address ≡ b → Next (Calls.page address)
+          (record { answer = done; machine = cond b (withCache m (Whole.dropPage (tag address) (m .cache))) m; memory = memory })
+      go true form = by-cases (eqb (tag address) t) own other
+        where
+          own : eqb (tag address) t ≡ true → Next (Calls.page address)
+              (record { answer = done; machine = withCache m (Whole.dropPage (tag address) (m .cache)); memory = memory })
+          own same =
+              record {
+                sixteen = drop-sixteen (tag address) (m .cache) (sound .sixteen);
+                as-long = sound .as-long;
+                backed =
+                    subst (λ (u : ℕ). Has (Own t s size (kept t (Calls.page address) done w)) (held (setIndex t) (Whole.dropPage u (m .cache))))
+                    (sym (eqb-true (tag address) t same))
+                    (dropped-own t size s (kept t (Calls.page address) done w) (m .cache) (sound .sixteen));
+              }
+
+          other : eqb (tag address) t ≡ false → Next (Calls.page address)
+              (record { answer = done; machine = withCache m (Whole.dropPage (tag address) (m .cache)); memory = memory })
+          other apart =
+              subst (Sound t size (record { machine = withCache m (Whole.dropPage (tag address) (m .cache)); memory = memory }))
+              (sym (kept-all t (Calls.page address) done w (λ v. rw (form, apart))))
+              (record {
+                sixteen = drop-sixteen (tag address) (m .cache) (sound .sixteen);
+                as-long = sound .as-long;
+                backed = dropped-any t size s w (m .cache) (sound .sixteen) (tag address) (sound .backed);
+              })
+      go false form = unchanged (Calls.page address) done memory refl (kept-all t (Calls.page address) done w (λ v. rw form))
+
+  -- every call
+  after-call : (c : Call) → Next c (step m memory c)
+  after-call (Calls.translate address access mode) = translation address access mode (goes m memory address access mode)
+  after-call (Calls.store at value) = after-store at value
+  after-call (Calls.root value) = after-root value
+  after-call (Calls.settings cr0 cr4 efer width) = after-settings cr0 cr4 efer width
+  after-call (Calls.page address) = after-page address
+  after-call Calls.all = after-all
+
+  -- guest stores
+  after-stores : (other : List ℕ) → Sound t size (record { machine = m; memory = replaced memory other }) w
+  after-stores other =
+      record { sixteen = sound .sixteen; as-long = long (eqb (length other) (length memory)) refl ∙ sound .as-long; backed = sound .backed }
+    where
+      long : (b : Bool) → eqb (length other) (length memory) ≡ b → length (cond b other memory) ≡ length memory
+      long true e = eqb-true (length other) (length memory) e
+      long false e = refl
+
+-- every event of a series
+after-event : (t size : ℕ) (now : Stand) (w : Latest) → Sound t size now w → (e : Event) → Sound t size (leads now e) (notedEvent t now e w)
+after-event t size now w sound (call c) = after-call t size (now .machine) (now .memory) w sound c
+after-event t size now w sound (stores other) = after-stores t size (now .machine) (now .memory) w sound other
+
+-- a whole series
+pub after-series : (t size : ℕ) (now : Stand) (w : Latest) → Sound t size now w → (es : List Event) → Sound t size (run now es) (latest t now es w)
+unfolding run latest
+after-series t size now w sound [] = sound
+after-series t size now w sound (e ∷ es) = after-series t size (leads now e) (notedEvent t now e w) (after-event t size now w sound e) es
+
+-- the start stands soundly
+pub start-sound : (t : ℕ) (s : Settings) (memory : List ℕ) → Sound t (length memory) (start s memory) none
+start-sound t s memory =
+    record {
+      sixteen = empty-sixteen;
+      as-long = refl;
+      backed = emptied t (length memory) (started s .settings) none emptyCache empty-sixteen;
+    }

@@ -1,0 +1,16 @@
+pub mod Asked
+pub mod Demand
+pub mod First
+pub mod Frames
+pub mod Lists
+pub mod Marking
+pub mod Memory
+pub mod Paths
+pub mod Places
+pub mod Rewalk
+pub mod Rules
+pub mod Second
+pub mod Sets
+pub mod Sound
+pub mod Translations
+pub mod Values

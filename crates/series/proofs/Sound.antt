@@ -1,0 +1,149 @@
+-- Where a series stands soundly: every place of a page that the cache holds is backed by the latest walk of the page.
+use Prim.Native.Nat.{ℕ}
+use native.Mathlib.Decide.{ℕ-discrete}
+use mathlib.Core.Path.{_≡_, refl, sym, ap, subst, _∙_}
+use mathlib.Core.Bool.{Bool, true, false, not, _&&_, cond, false≢true}
+use mathlib.Core.List.{List, _∷_}
+use lib.Dec.{eqb}
+use lib.ListN.{length}
+use Rattle.settings.specs.declared.Settings.{Settings}
+use Rattle.settings.specs.Settings.{root}
+use Rattle.address.specs.declared.VirtAddr.{VirtAddr}
+use Rattle.address.specs.Address.{tag}
+use Rattle.walk.specs.declared.Answer.{Answer}
+use Rattle.cache.specs.declared.Cache.{Cache}
+use Rattle.cache.specs.declared.Place.{Place}
+use Rattle.cache.specs.Places.{setIndex, filledIn, otherTag, spares, stays}
+use Rattle.cache.specs.Sets.{keep}
+use Rattle.cache.specs.Whole.{held, emptyCache, fillCache, loadRoot}
+use Rattle.cache.specs.Whole as Whole
+use Rattle.cache.proofs.Laws.{Sixteen, held-empty, held-fill, held-fill-other, held-drop, held-root, drop-takes, fill-takes, root-takes}
+use Rattle.machine.specs.Calls.{Call, withRoot}
+use Rattle.machine.specs.Calls as Calls
+use Rattle.series.specs.Series.{Stand}
+use Rattle.series.specs.History.{Walk, Latest, none, walk, walkOf, succeeded, faulted, accepted, drops, kept, noted}
+use Rattle.series.proofs.Places.{Alike, Backs, backs-global}
+use Rattle.series.proofs.Lists.{Has, has-keep, has-take, keep-has}
+
+-- a place is backed by the latest walk of its page
+abbrev pub Backed : Settings → ℕ → Latest → Place → Type 0
+Backed s size none p = ⊥
+Backed s size (walk w) p = Backs s size w p
+
+-- a place of page t is
+abbrev pub Own : ℕ → Settings → ℕ → Latest → Place → Type 0
+Own t s size w p = p .tag ≡ t → Backed s size w p
+
+-- where a series stands soundly for page t
+pub record Sound (t size : ℕ) (now : Stand) (w : Latest) : Type 0 where
+  pub sixteen : Sixteen (now .machine .cache)
+  pub as-long : length (now .memory) ≡ size
+  pub backed : Has (Own t (now .machine .settings) size w) (held (setIndex t) (now .machine .cache))
+
+-- What is known of a page after a call.
+
+-- a call that drops nothing leaves what is known
+pub kept-all : (t : ℕ) (c : Call) (r : Answer) (w : Latest) → ((v : Walk) → drops t v c r ≡ false) → kept t c r w ≡ w
+kept-all t c r none h = refl
+kept-all t c r (walk v) h = ap (λ (b : Bool). cond b none (walk v)) (h v)
+
+module _ (t : ℕ) (s : Settings) (before after : List ℕ) (address : VirtAddr) (access mode : ℕ) (r : Answer) (w : Latest) where
+  abbrev this : Call
+  this = Calls.translate address access mode
+
+  pub noted-quiet : succeeded r ≡ false → faulted r ≡ false → noted t s before this r after w ≡ w
+  noted-quiet no-success no-fault = go (eqb (tag address) t) refl
+    where
+      go : (b : Bool) → eqb (tag address) t ≡ b → cond (b && succeeded r) (walk (walkOf s address before after)) (kept t this r w) ≡ w
+      go true e = rw no-success (kept-all t this r w (λ v. rw (e, no-fault)))
+      go false e = kept-all t this r w (λ v. rw e)
+
+  pub noted-other : eqb (tag address) t ≡ false → noted t s before this r after w ≡ w
+  noted-other e = rw e (kept-all t this r w (λ v. rw e))
+
+  pub noted-walk : eqb (tag address) t ≡ true → succeeded r ≡ true → noted t s before this r after w ≡ walk (walkOf s address before after)
+  noted-walk e success = rw (e, success)
+
+-- What the cache holds of a page after a change.
+
+pub contradiction {ℓ} : {X : Type ℓ} {b : Bool} → b ≡ true → b ≡ false → X
+contradiction yes-it no-it = absurd (false≢true (sym no-it ∙ yes-it))
+
+module _ (t size : ℕ) (s : Settings) (w : Latest) (c : Cache) (sixteen : Sixteen c) where
+  -- a drop of the page leaves none of its places
+  pub dropped-own : Has (Own t s size w) (held (setIndex t) (Whole.dropPage t c))
+  dropped-own =
+      subst (Has (Own t s size w)) (sym (held-drop t c (setIndex t) sixteen))
+      (keep-has (otherTag t) (λ p other same. contradiction other (drop-takes t p same)) (held (setIndex t) c))
+
+  -- a drop of any page leaves what is backed
+  pub dropped-any : (u : ℕ) → Has (Own t s size w) (held (setIndex t) c) → Has (Own t s size w) (held (setIndex t) (Whole.dropPage u c))
+  dropped-any u h =
+      subst (Has (Own t s size w)) (sym (held-drop u c (setIndex t) sixteen)) (has-keep (otherTag u) (λ p other own. own) (held (setIndex t) c) h)
+
+  -- nothing is held in the empty cache
+  pub emptied : Has (Own t s size w) (held (setIndex t) emptyCache)
+  emptied = subst (Has (Own t s size w)) (sym (held-empty (setIndex t))) tt
+
+  -- a fill of the page leaves the new place
+  pub filled-own : (p : Place) → p .tag ≡ t → filledIn (setIndex (p .tag)) p ≡ true → Backed s size w p → Has (Own t s size w) (held (setIndex t) (fillCache p c))
+  filled-own p same is-filled new =
+      subst (λ (u : ℕ). Has (Own t s size w) (held (setIndex u) (fillCache p c))) same
+      (subst (Has (Own t s size w)) (sym (held-fill p c sixteen is-filled))
+      (has-take (Own t s size w) 4 (p ∷ keep (spares p) (held (setIndex (p .tag)) c))
+      ((λ tag-same. new), keep-has (spares p) (λ q spared own. contradiction spared (fill-takes p q (own ∙ sym same))) (held (setIndex (p .tag)) c))))
+
+  -- a fill of another page leaves what is backed
+  pub filled-other : (p : Place) → (p .tag ≡ t → ⊥) → filledIn (setIndex (p .tag)) p ≡ true → Has (Own t s size w) (held (setIndex t) c)
+      → Has (Own t s size w) (held (setIndex t) (fillCache p c))
+  filled-other p other is-filled h = go (ℕ-discrete (setIndex t) (setIndex (p .tag)))
+    where
+      go : Dec (setIndex t ≡ setIndex (p .tag)) → Has (Own t s size w) (held (setIndex t) (fillCache p c))
+      go (yes same) =
+          subst (λ (i : ℕ). Has (Own t s size w) (held i (fillCache p c))) (sym same)
+          (subst (Has (Own t s size w)) (sym (held-fill p c sixteen is-filled))
+          (has-take (Own t s size w) 4 (p ∷ keep (spares p) (held (setIndex (p .tag)) c)) (
+            (λ tag-same. absurd (other tag-same)),
+            has-keep (spares p) (λ q spared own. own) (held (setIndex (p .tag)) c) (subst (λ (i : ℕ). Has (Own t s size w) (held i c)) same h),
+          )))
+      go (no apart) = subst (Has (Own t s size w)) (sym (held-fill-other p c (setIndex t) apart)) h
+
+-- settings with another root back what was backed
+alike-backs : (s s′ : Settings) (size : ℕ) (w : Walk) (p : Place) → Alike s s′ → Backs s size w p → Backs s′ size w p
+alike-backs s s′ size w p alike k =
+    record {
+      under = k .under;
+      at = k .at;
+      how = k .how;
+      memory = k .memory;
+      found = k .found;
+      alike = record {
+        cr0-same = k .alike .cr0-same ∙ alike .cr0-same;
+        cr4-same = k .alike .cr4-same ∙ alike .cr4-same;
+        efer-same = k .alike .efer-same ∙ alike .efer-same;
+        width-same = k .alike .width-same ∙ alike .width-same;
+      };
+      wide = k .wide;
+      as-long = k .as-long;
+      walk-found = k .walk-found;
+      is-place = k .is-place;
+      is-walk = k .is-walk;
+    }
+
+pub root-alike : (s : Settings) (value : ℕ) → Alike s (withRoot s value)
+root-alike s value = record { cr0-same = refl; cr4-same = refl; efer-same = refl; width-same = refl }
+
+-- a root load leaves what is backed by a walk of a G page, and forgets the walk of any other
+pub rooted : (t size : ℕ) (s : Settings) (value : ℕ) (w : Latest) (r : Answer) (c : Cache) → Sixteen c → accepted r ≡ true → Has (Own t s size w) (held (setIndex t) c)
+    → Has (Own t (withRoot s value) size (kept t (Calls.root value) r w)) (held (setIndex t) (loadRoot c))
+rooted t size s value w r c sixteen ok h =
+    subst (Has (Own t (withRoot s value) size (kept t (Calls.root value) r w))) (sym (held-root c (setIndex t) sixteen))
+    (has-keep stays (stay w) (held (setIndex t) c) h)
+  where
+    stay : (w : Latest) (p : Place) → stays p ≡ true → Own t s size w p → Own t (withRoot s value) size (kept t (Calls.root value) r w) p
+    stay none p is-global own same = own same
+    stay (walk v) p is-global own same = go (v .global) refl (own same)
+      where
+        go : (b : Bool) → v .global ≡ b → Backs s size v p → Backed (withRoot s value) size (cond (accepted r && not b) none (walk v)) p
+        go true e k = rw ok (alike-backs s (withRoot s value) size v p (root-alike s value) k)
+        go false e k = contradiction (sym (root-takes p) ∙ is-global) (backs-global s size v p k ∙ e)

@@ -1,0 +1,80 @@
+-- The four ways that a translation goes: no walk is due, a hit, a walk that fills, a walk that drops.
+use Prim.Native.Nat.{ℕ}
+use mathlib.Core.Path.{_≡_, refl}
+use mathlib.Core.Bool.{true, false}
+use mathlib.Core.List.{List}
+use Rattle.settings.specs.declared.Settings.{Settings}
+use Rattle.address.specs.declared.VirtAddr.{VirtAddr}
+use Rattle.address.specs.Address.{tag}
+use Rattle.walk.specs.declared.Access.{Access}
+use Rattle.walk.specs.declared.Answer.{Answer}
+use Rattle.walk.specs.declared.Answer.the-variants as Answer
+use Rattle.walk.specs.declared.Asked.{Asked}
+use Rattle.walk.specs.declared.Asked.the-variants as Asked
+use Rattle.walk.specs.declared.Mapping.{Mapping}
+use Rattle.walk.specs.declared.Walked.{Walked}
+use Rattle.walk.specs.declared.Walked.the-variants as Walked
+use Rattle.walk.specs.Walk.{after, walkAnswer, walkMemory}
+use Rattle.walk.specs.Translate.{asked, answered, fresh, translated, translatedMemory}
+use Rattle.cache.specs.declared.Found.{Found}
+use Rattle.cache.specs.declared.Found.the-variants as Found
+use Rattle.cache.specs.declared.Place.{Place}
+use Rattle.cache.specs.Whole.{findCache, fillCache}
+use Rattle.cache.specs.Whole as Whole
+use Rattle.machine.specs.declared.Machine.{Machine}
+use Rattle.machine.specs.Remember.{wanted, placeOf, hit}
+use Rattle.machine.specs.Calls.{Result, step, withCache, only}
+use Rattle.machine.specs.Calls as Calls
+use Rattle.series.specs.History.{succeeded, faulted}
+
+module _ (m : Machine) (memory : List ℕ) (address : VirtAddr) (access mode : ℕ) where
+  abbrev s : Settings
+  s = m .settings
+
+  -- the call's result, and the fresh walk's answer and memory
+  abbrev result : Result
+  result = step m memory (Calls.translate address access mode)
+
+  abbrev freshly : Answer
+  freshly = translated s address access mode memory
+
+  abbrev left : List ℕ
+  left = translatedMemory s address access mode memory
+
+  -- how a translation goes
+  pub data Goes : Type 0 where
+    quiet : (r : Answer) → succeeded r ≡ false → faulted r ≡ false → result ≡ only r m memory → freshly ≡ r → left ≡ memory → Goes
+    hits : (a : Access) (p : Place) → findCache (wanted s address a) (m .cache) ≡ Found.At p → result ≡ only (hit address p) m memory
+        → freshly ≡ answered s address a (walkAnswer s address a memory) → left ≡ walkMemory s address a memory → Goes
+    fills : (a : Access) (f : Mapping) → asked s address access mode ≡ Asked.On a → walkAnswer s address a memory ≡ Walked.Mapped f
+        → result ≡ record { answer = answered s address a (Walked.Mapped f); machine = withCache m (fillCache (placeOf s address a f) (m .cache)); memory = walkMemory s address a memory }
+        → freshly ≡ answered s address a (Walked.Mapped f) → left ≡ walkMemory s address a memory → Goes
+    drops : (r : Answer) → succeeded r ≡ false → faulted r ≡ true
+        → result ≡ record { answer = r; machine = withCache m (Whole.dropPage (tag address) (m .cache)); memory = memory }
+        → freshly ≡ r → left ≡ memory → Goes
+
+  by-walk : (a : Access) (w : Walked) → asked s address access mode ≡ Asked.On a → findCache (wanted s address a) (m .cache) ≡ Found.Nothing
+      → walkAnswer s address a memory ≡ w → Goes
+  unfolding step Calls.translated translated translatedMemory after
+  by-walk a (Walked.Mapped f) on miss is =
+      fills a f on is (rw (on, miss, is)) (rw (on, is)) (rw on)
+  by-walk a (Walked.Refused cause n) on miss is =
+      drops (answered s address a (Walked.Refused cause n)) refl refl (rw (on, miss, is)) (rw (on, is)) (rw (on, is))
+  by-walk a (Walked.Outside at l n) on miss is =
+      drops (answered s address a (Walked.Outside at l n)) refl refl (rw (on, miss, is)) (rw (on, is)) (rw (on, is))
+
+  by-found : (a : Access) (x : Found) → asked s address access mode ≡ Asked.On a → findCache (wanted s address a) (m .cache) ≡ x → Goes
+  unfolding step Calls.translated translated translatedMemory
+  by-found a (Found.At p) on is = hits a p is (rw (on, is)) (rw on) (rw on)
+  by-found a Found.Nothing on is = by-walk a (walkAnswer s address a memory) on is refl
+
+  by-asked : (x : Asked) → asked s address access mode ≡ x → Goes
+  unfolding step Calls.translated translated translatedMemory
+  by-asked Asked.Unknown is = quiet Answer.Unknown refl refl (rw is) (rw is) (rw is)
+  by-asked Asked.NotServed is = quiet Answer.NotServed refl refl (rw is) (rw is) (rw is)
+  by-asked Asked.Form is = quiet Answer.Form refl refl (rw is) (rw is) (rw is)
+  by-asked (Asked.Off at) is = quiet (Answer.Done at 0 0) refl refl (rw is) (rw is) (rw is)
+  by-asked (Asked.On a) is = by-found a (findCache (wanted s address a) (m .cache)) is refl
+
+  pub goes : Goes
+  goes = by-asked (asked s address access mode) refl

@@ -1,0 +1,123 @@
+-- Demand 3, sentence by sentence: its two halves, and what any call that walks gives.
+use Prim.Native.Nat.{ℕ, _+_, _*_, _/_, _%_, _≤_}
+use mathlib.Core.Path.{_≡_}
+use mathlib.Core.Bool.{Bool, true, false, not, _&&_, _||_}
+use mathlib.Core.List.{List, [], _∷_}
+use lib.Dec.{eqb}
+use lib.ListN.{length}
+use Rattle.settings.specs.declared.Settings.{Settings}
+use Rattle.settings.specs.Settings.{root}
+use Rattle.address.specs.declared.VirtAddr.{VirtAddr}
+use Rattle.address.specs.Address.{tag}
+use Rattle.walk.specs.declared.Answer.{Answer}
+use Rattle.walk.specs.declared.Answer.the-variants as Answer
+use Rattle.walk.specs.declared.Numbers.{Numbers}
+use Rattle.walk.specs.Translate.{translated, translatedMemory, numbers}
+use Rattle.cache.specs.Places.{setIndex}
+use Rattle.machine.specs.Calls.{Call, Result}
+use Rattle.machine.specs.Calls as Calls
+use Rattle.series.specs.Series.{Event, call, stores, Stand, gives, leads, run, start}
+use Rattle.series.specs.History.{Walk, Latest, none, walk, walkOf, succeeded, asks, drops, latest}
+use Rattle.series.specs.Holds.{Holds}
+
+-- what a translation gives where a series stands
+abbrev pub ask : Stand → VirtAddr → ℕ → ℕ → Result
+ask now address access mode = gives now (Calls.translate address access mode)
+
+-- what a fresh walk is answered there, and the memory that it leaves: the rules of one uncached translation
+abbrev pub freshAnswer : Stand → VirtAddr → ℕ → ℕ → Answer
+freshAnswer now address access mode = translated (now .machine .settings) address access mode (now .memory)
+
+abbrev pub freshMemory : Stand → VirtAddr → ℕ → ℕ → List ℕ
+freshMemory now address access mode = translatedMemory (now .machine .settings) address access mode (now .memory)
+
+-- "the page asked for has had no successful walk since it was last dropped; or the root is that of its latest such walk, and each entry read then holds what that walk left, save Accessed or Dirty bits set since"
+abbrev pub Premise : Stand → Latest → Type 0
+Premise now none = Unit
+Premise now (walk w) = (root (now .machine .settings) ≡ w .root) × Holds (now .memory) (w .entries)
+
+-- "address and size, or refusal": number, value and detail of an answer, and not its entries read
+abbrev pub told : Answer → Numbers
+told r = record { answer = numbers r .answer; value = numbers r .value; detail = numbers r .detail; reads = 0 }
+
+-- "Then address and size, or refusal, and the memory afterwards are those of a fresh walk."
+abbrev pub AsFresh : Stand → VirtAddr → ℕ → ℕ → Type 0
+AsFresh now address access mode =
+    (told (ask now address access mode .answer) ≡ told (freshAnswer now address access mode))
+    × (ask now address access mode .memory ≡ freshMemory now address access mode)
+
+-- the first half: "Take any series of calls from an empty cache, with any guest stores between", and any question
+abbrev pub FirstHalf : Type 0
+FirstHalf =
+    (s : Settings) (memory : List ℕ) (series : List Event) (address : VirtAddr) (access mode : ℕ)
+    → Premise (run (start s memory) series) (latest (tag address) (start s memory) series none)
+    → AsFresh (run (start s memory) series) address access mode
+
+-- "at most three other pages"
+abbrev pub others : ℕ
+others = 3
+
+-- a page is in a list of pages
+abbrev pub among : ℕ → List ℕ → Bool
+among t [] = false
+among t (page ∷ pages) = eqb t page || among t pages
+
+-- where a call walks another page of the set of t with success, that page is in the list
+abbrev pub counted : ℕ → List ℕ → Call → Answer → Bool
+counted t pages (Calls.translate address access mode) r =
+    not (succeeded r && eqb (setIndex (tag address)) (setIndex t)) || among (tag address) pages
+counted t pages (Calls.store at value) r = true
+counted t pages (Calls.root value) r = true
+counted t pages (Calls.settings cr0 cr4 efer width) r = true
+counted t pages (Calls.page address) r = true
+counted t pages Calls.all r = true
+
+-- "between, nothing dropped it, no other call asked for it, and" no page but those of a list, "of its set", was "walked with success"
+abbrev pub Between : ℕ → Walk → List ℕ → Stand → List Event → Type 0
+Between t w pages now [] = Unit
+Between t w pages now (call c ∷ es) =
+    (drops t w c (gives now c .answer) ≡ false)
+    × (asks t c ≡ false)
+    × (counted t pages c (gives now c .answer) ≡ true)
+    × Between t w pages (leads now (call c)) es
+Between t w pages now (stores other ∷ es) = Between t w pages (leads now (stores other)) es
+
+-- the walk that a translation made
+abbrev pub walkBy : Stand → VirtAddr → ℕ → ℕ → Walk
+walkBy now address access mode = walkOf (now .machine .settings) address (now .memory) (ask now address access mode .memory)
+
+-- the frame and size of an earlier answer, at another address of the page, with "no entry read"
+abbrev pub again : Numbers → VirtAddr → Numbers
+again before address = record { answer = 0; value = before .value / 4096 * 4096 + address .0 % 4096; detail = before .detail; reads = 0 }
+
+-- "a page walked with success and later asked for in the same way reports no entry read": the same access and mode, any offset
+abbrev pub Remembered : Stand → Type 0
+Remembered now =
+    (first later : VirtAddr) (access mode : ℕ) (pages : List ℕ) (between : List Event)
+    → succeeded (ask now first access mode .answer) ≡ true
+    → tag later ≡ tag first
+    → length pages ≤ others
+    → Between (tag first) (walkBy now first access mode) pages (leads now (call (Calls.translate first access mode))) between
+    → numbers (ask (run (leads now (call (Calls.translate first access mode))) between) later access mode .answer)
+    ≡ again (numbers (ask now first access mode .answer)) later
+
+-- the second half: after any series from an empty cache
+abbrev pub SecondHalf : Type 0
+SecondHalf = (s : Settings) (memory : List ℕ) (series : List Event) → Remembered (run (start s memory) series)
+
+-- an answer that tells of no hit: a refusal, or a success with entries read
+abbrev pub walks : Answer → Bool
+walks (Answer.Done at size n) = not (eqb n 0)
+walks Answer.Unknown = true
+walks Answer.NotServed = true
+walks Answer.Form = true
+walks (Answer.Outside at l n) = true
+walks (Answer.Fault c l n) = true
+
+-- besides, in any state whatever: a call that walks gives what a fresh walk gives, entries read too
+abbrev pub AnyWalk : Type 0
+AnyWalk =
+    (now : Stand) (address : VirtAddr) (access mode : ℕ)
+    → walks (ask now address access mode .answer) ≡ true
+    → (ask now address access mode .answer ≡ freshAnswer now address access mode)
+    × (ask now address access mode .memory ≡ freshMemory now address access mode)

@@ -1,0 +1,125 @@
+-- The latest successful walk of a page since it was last dropped: computed from calls, answers and memory, never from the cache.
+use Prim.Native.Nat.{ℕ}
+use mathlib.Core.Bool.{Bool, true, false, not, _&&_, cond}
+use mathlib.Core.List.{List, [], _∷_}
+use lib.Dec.{eqb}
+use Rattle.word.specs.Bits.{bit}
+use Rattle.word.specs.Bytes.{load}
+use Rattle.settings.specs.declared.Settings.{Settings}
+use Rattle.settings.specs.Settings.{pge, root}
+use Rattle.address.specs.declared.VirtAddr.{VirtAddr}
+use Rattle.address.specs.Address.{canonical, tag}
+use Rattle.walk.specs.declared.Answer.{Answer}
+use Rattle.walk.specs.declared.Answer.the-variants as Answer
+use Rattle.walk.specs.Path.{Entry, End, outside, missing, reserved, page, entries, endOf}
+use Rattle.walk.specs.Walk.{walkPath}
+use Rattle.machine.specs.Calls.{Call}
+use Rattle.machine.specs.Calls as Calls
+use Rattle.series.specs.Series.{Event, call, stores, Stand, gives, leads}
+
+-- an entry that a walk read, and what the walk left in it
+pub record Left : Type 0 where
+  pub address : ℕ
+  pub value : ℕ
+
+-- a successful walk: the root it used, the entries it read with what it left in them, and whether its page is G
+pub record Walk : Type 0 where
+  pub root : ℕ
+  pub entries : List Left
+  pub global : Bool
+
+-- what the entries read hold in memory after the walk
+abbrev pub leftIn : List ℕ → List Entry → List Left
+leftIn after [] = []
+leftIn after (e ∷ es) = record { address = e .address; value = load 8 after (e .address) } ∷ leftIn after es
+
+-- "G (kept only if PGE = 1)", of the page at which a walk ends
+abbrev pub isGlobal : Settings → End → Bool
+isGlobal s (outside l at) = false
+isGlobal s (missing e) = false
+isGlobal s (reserved e) = false
+isGlobal s (page e base) = bit (e .value) 8 && pge s
+
+-- the walk of an address under settings, from memory before it and after it
+abbrev pub walkOf : Settings → VirtAddr → List ℕ → List ℕ → Walk
+walkOf s address before after =
+    record {
+      root = root s;
+      entries = leftIn after (entries (walkPath s address before));
+      global = isGlobal s (endOf (walkPath s address before));
+    }
+
+-- a successful walk, read off its answer: 0 with entries read
+abbrev pub succeeded : Answer → Bool
+succeeded (Answer.Done at size n) = not (eqb n 0)
+succeeded Answer.Unknown = false
+succeeded Answer.NotServed = false
+succeeded Answer.Form = false
+succeeded (Answer.Outside at l n) = false
+succeeded (Answer.Fault c l n) = false
+
+-- "a translation's 4 or 5 drops the asked page", read off its answer
+abbrev pub faulted : Answer → Bool
+faulted (Answer.Done at size n) = false
+faulted Answer.Unknown = false
+faulted Answer.NotServed = false
+faulted Answer.Form = false
+faulted (Answer.Outside at l n) = true
+faulted (Answer.Fault c l n) = true
+
+-- a load that is accepted, read off its answer: 0
+abbrev pub accepted : Answer → Bool
+accepted (Answer.Done at size n) = true
+accepted Answer.Unknown = false
+accepted Answer.NotServed = false
+accepted Answer.Form = false
+accepted (Answer.Outside at l n) = false
+accepted (Answer.Fault c l n) = false
+
+-- a call that asks for page t: any translation that names it
+abbrev pub asks : ℕ → Call → Bool
+asks t (Calls.translate address access mode) = eqb (tag address) t
+asks t (Calls.store at value) = false
+asks t (Calls.root value) = false
+asks t (Calls.settings cr0 cr4 efer width) = false
+asks t (Calls.page address) = false
+asks t Calls.all = false
+
+-- a call that drops page t, whose latest successful walk is w; to fall out at the end of a set is no drop
+abbrev pub drops : ℕ → Walk → Call → Answer → Bool
+drops t w (Calls.translate address access mode) r = eqb (tag address) t && faulted r
+drops t w (Calls.store at value) r = false
+drops t w (Calls.root value) r = accepted r && not (w .global)
+drops t w (Calls.settings cr0 cr4 efer width) r = accepted r
+drops t w (Calls.page address) r = canonical address && eqb (tag address) t
+drops t w Calls.all r = true
+
+-- what is known of a page: no successful walk since it was last dropped, or the latest such walk
+pub data Latest : Type 0 where
+  none : Latest
+  walk : Walk → Latest
+
+-- the latest walk of page t after a call that does not walk it with success: forgotten where the page is dropped
+abbrev pub kept : ℕ → Call → Answer → Latest → Latest
+kept t c r none = none
+kept t c r (walk w) = cond (drops t w c r) none (walk w)
+
+-- the latest walk of page t after a call, from settings and memory before it, its answer and memory after it
+abbrev pub noted : ℕ → Settings → List ℕ → Call → Answer → List ℕ → Latest → Latest
+noted t s before (Calls.translate address access mode) r after w =
+    cond (eqb (tag address) t && succeeded r) (walk (walkOf s address before after)) (kept t (Calls.translate address access mode) r w)
+noted t s before (Calls.store at value) r after w = kept t (Calls.store at value) r w
+noted t s before (Calls.root value) r after w = kept t (Calls.root value) r w
+noted t s before (Calls.settings cr0 cr4 efer width) r after w = kept t (Calls.settings cr0 cr4 efer width) r w
+noted t s before (Calls.page address) r after w = kept t (Calls.page address) r w
+noted t s before Calls.all r after w = kept t Calls.all r w
+
+-- the same after an event: guest stores drop nothing
+abbrev pub notedEvent : ℕ → Stand → Event → Latest → Latest
+notedEvent t now (call c) w = noted t (now .machine .settings) (now .memory) c (gives now c .answer) (gives now c .memory) w
+notedEvent t now (stores other) w = w
+
+-- the latest walk of page t after a series, given what it was before
+unfoldable pub latest : ℕ → Stand → List Event → Latest → Latest
+latest t now [] w = w
+latest t now (e ∷ es) w = latest t (leads now e) es (notedEvent t now e w)

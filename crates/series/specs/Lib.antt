@@ -1,0 +1,4 @@
+pub mod Demand
+pub mod History
+pub mod Holds
+pub mod Series
