@@ -2,7 +2,7 @@
 use Prim.Native.Nat.{ℕ}
 use native.Mathlib.Decide.{ℕ-discrete}
 use mathlib.Core.Path.{_≡_, refl, sym, ap, subst, _∙_}
-use mathlib.Core.Bool.{Bool, true, false, _&&_, cond, false≢true}
+use mathlib.Core.Bool.{Bool, true, false, not, _&&_, cond, false≢true}
 use mathlib.Core.List.{List, _∷_}
 use lib.Dec.{eqb}
 use lib.ListN.{length}
@@ -146,7 +146,7 @@ rooted t size s value w r c sixteen ok h =
     stay (walk v) p is-global own same = go (v .global) refl (own same)
       where
         spared : v .global ≡ true → drops t v (Calls.root value) r ≡ false
-        spared e = rw (ok, e)
+        spared e = rw ok (ap not e)
 
         go : (b : Bool) → v .global ≡ b → Backs s size v p → Backed (withRoot s value) size (kept t (Calls.root value) r (walk v)) p
         go true e k =

@@ -14,6 +14,7 @@ use Rattle.address.specs.declared.VirtAddr.{VirtAddr}
 use Rattle.address.specs.Address.{tag, canonical}
 use Rattle.walk.specs.declared.Answer.{Answer}
 use Rattle.walk.specs.declared.Answer.the-variants as Answer
+use Rattle.walk.proofs.Laws.{by-cases}
 use Rattle.cache.specs.declared.Cache.{Cache}
 use Rattle.cache.specs.declared.Found.the-variants as Found
 use Rattle.cache.specs.declared.Place.{Place}
@@ -35,6 +36,7 @@ use Rattle.series.proofs.Places.{Alike, found-reads, found-filled}
 use Rattle.series.proofs.Asked.{due}
 use Rattle.series.proofs.Translations.{Goes, quiet, hits, fills, goes}
 use Rattle.series.proofs.Translations as Ways
+use Rattle.series.proofs.Sound.{contradiction}
 use Rattle.series.proofs.Sets.{Few, few-length, few-keep, keep-around, take-around}
 
 -- a place in its set behind places of few other pages
@@ -200,8 +202,11 @@ module _ (t : ℕ) (pages : List ℕ) (at-most : length pages ≤ others) (p : P
               with-cache m (Whole.dropPage (tag address) (m .cache)) k
               (drop-stays (tag address) (m .cache) (λ e. eqb-false (tag address) t other (sym e)) (k .stays-in))
             where
+              dropped : eqb (tag address) t ≡ true → drops t w (Calls.page address) done ≡ true
+              dropped same = rw (form, same)
+
               other : eqb (tag address) t ≡ false
-              other = sym (ap (λ (x : Bool). x && eqb (tag address) t) form) ∙ no-drop
+              other = by-cases (eqb (tag address) t) (λ same. contradiction (dropped same) no-drop) (λ apart. apart)
           go false form no-drop not-asked counting = k
 
       after-all : Spared Calls.all (step m memory Calls.all)
