@@ -127,9 +127,11 @@ settingsResult m memory cr0 cr4 efer width =
     }
 
 -- "'Drop page' drops the tag of its address, G or not; a non-canonical address changes nothing and answers 0."
+abbrev pub pageDropped : Machine → VirtAddr → Machine
+pageDropped m address = cond (canonical address) (withCache m (Whole.dropPage (tag address) (m .cache))) m
+
 unfoldable pub pageResult : Machine → List ℕ → VirtAddr → Result
-pageResult m memory address =
-    record { answer = done; machine = cond (canonical address) (withCache m (Whole.dropPage (tag address) (m .cache))) m; memory = memory }
+pageResult m memory address = record { answer = done; machine = pageDropped m address; memory = memory }
 
 -- "'drop all' drops everything and leaves zeros"
 unfoldable pub allResult : Machine → List ℕ → Result

@@ -1,2 +1,4 @@
 pub mod Calls
+pub mod Demand1
 pub mod Remember
+pub mod Sets

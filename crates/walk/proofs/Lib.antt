@@ -1,3 +1,9 @@
 pub mod Asking
+pub mod Bits
+pub mod Demand2
+pub mod Lacking
 pub mod Laws
+pub mod Marking
+pub mod Sound
 pub mod Top
+pub mod Verdict

@@ -12,12 +12,12 @@ pub struct Access {
     pub user: bool,
 }
 
-// What a walk that succeeds finds: the page's base, its last entry as read, the rights of all entries, its size and the entries read.
+// What a walk that succeeds finds: the page's base and size, its last entry as read, the rights of all entries and the entries read.
 pub struct Mapping {
     pub base: PhysAddr,
+    pub size: u64,
     pub last: u64,
     pub rights: u64,
-    pub size: u64,
     pub reads: u64,
 }
 

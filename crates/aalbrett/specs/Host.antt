@@ -1,0 +1,41 @@
+-- The host's call: "The host calls the uncached walk with numbers, guest memory and an answer buffer."
+use Prim.Native.Nat.{ℕ}
+use mathlib.Core.Bool.{Bool, cond}
+use mathlib.Core.List.{List}
+use lib.Dec.{ltb}
+use lib.ListN.{length}
+use Rattle.word.specs.Bytes.{store}
+use Rattle.settings.specs.declared.Settings.{Settings}
+use Rattle.address.specs.declared.VirtAddr.{VirtAddr}
+use Rattle.walk.specs.declared.Numbers.{Numbers}
+use Rattle.walk.specs.Translate.{translated, translatedMemory, numbers}
+
+-- "Below 32 bytes"
+abbrev pub short : List ℕ → Bool
+short buffer = ltb (length buffer) 32
+
+-- "the first 32 bytes become answer, value, detail and entries read, as four little-endian 64-bit numbers [..]; later bytes stay"
+unfoldable pub written : Numbers → List ℕ → List ℕ
+written n buffer = store 8 (store 8 (store 8 (store 8 buffer 0 (n .answer)) 8 (n .value)) 16 (n .detail)) 24 (n .reads)
+
+-- what the host hands over, in the order of its call
+module _ (cr0 cr3 cr4 efer width address access mode : ℕ) (memory buffer : List ℕ) where
+  -- the host's numbers as a settings record
+  abbrev pub registers : Settings
+  registers = record { cr0 = cr0; cr3 = cr3; cr4 = cr4; efer = efer; width = width }
+
+  -- the four numbers of one uncached translation
+  abbrev pub told : Numbers
+  told = numbers (translated registers (record { 0 = address }) access mode memory)
+
+  -- the result: "Below 32 bytes the call gives 7 [..]; this is tested first. Otherwise it returns the answer"
+  abbrev pub result : ℕ
+  result = cond (short buffer) 7 (told .answer)
+
+  -- guest memory after the call; for a short buffer "writes nothing"
+  abbrev pub memoryAfter : List ℕ
+  memoryAfter = cond (short buffer) memory (translatedMemory registers (record { 0 = address }) access mode memory)
+
+  -- the answer buffer after the call; for a short buffer "writes nothing", else written "on refusals also"
+  abbrev pub bufferAfter : List ℕ
+  bufferAfter = cond (short buffer) buffer (written told buffer)

@@ -1,0 +1,45 @@
+// The host's entries: numbers, lent guest memory and a lent answer buffer.
+use crate::buffer::write;
+use address::VirtAddr;
+use settings::Settings;
+use walk::translate::numbers;
+use walk::translate::translate;
+ghost use mathlib.Core.Path.{_≡_};
+ghost use Rattle.aalbrett.specs.Host as spec;
+
+mod buffer;
+
+// The number answered where the answer buffer is short.
+const SHORT: u64 = 7;
+
+// One uncached walk of guest memory: gives the answer's number, and writes its four numbers to the buffer.
+#[no_mangle]
+pub extern "C" fn aalbrett_walk(
+    cr0: u64,
+    cr3: u64,
+    cr4: u64,
+    efer: u64,
+    width: u64,
+    address: u64,
+    access: u64,
+    mode: u64,
+    memory: &mut [u8],
+    answer: &mut [u8],
+) -> u64
+    ensures { λ r. ⌜ (r ≡ spec.result cr0 cr3 cr4 efer width address access mode (now (memory .entry)) (now (answer .entry))) × (now (memory .exit) ≡ spec.memoryAfter cr0 cr3 cr4 efer width address access mode (now (memory .entry)) (now (answer .entry))) × (now (answer .exit) ≡ spec.bufferAfter cr0 cr3 cr4 efer width address access mode (now (memory .entry)) (now (answer .entry))) ⌝ }
+{
+    if answer.len() < buffer::SIZE {
+        return SHORT;
+    }
+    let settings = Settings {
+        cr0,
+        cr3,
+        cr4,
+        efer,
+        width,
+    };
+    let found = translate(memory, settings, VirtAddr(address), access, mode);
+    let told = numbers(found);
+    write(answer, told);
+    told.answer
+}

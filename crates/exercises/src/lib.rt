@@ -1,0 +1,1 @@
+// The starred exercises: one list, under one statement about the rules.

@@ -1,0 +1,144 @@
+// The other calls: start, store, loads and drops.
+use crate::Machine;
+use crate::Stepped;
+use address::PhysAddr;
+use address::VirtAddr;
+use cache::Cache;
+use settings::Service;
+use settings::Settings;
+use walk::Answer;
+use word::bytes::store64;
+ghost use mathlib.Core.Path.{_≡_};
+ghost use Rattle.cache.specs.Whole.{emptyCache, loadRoot};
+ghost use Rattle.machine.specs.Calls as spec;
+
+// Done, where no translation was asked.
+fn done() -> Answer
+    ensures { λ r. ⌜ r ≡ spec.done ⌝ }
+{
+    Answer::Done(PhysAddr(0), 0, 0)
+}
+
+// The machine that a load leaves: judged by the settings that it would leave, and refused as it was.
+fn load(before: Machine, settings: Settings, cache: Cache) -> Stepped
+    ensures { λ r. ⌜ (r .answer ≡ spec.loadAnswer settings) × (r .machine ≡ spec.loaded before settings cache) ⌝ }
+{
+    match settings.judge() {
+        Service::Served => Stepped {
+            answer: done(),
+            machine: Machine { settings, cache },
+        },
+        Service::NotServed => Stepped {
+            answer: Answer::NotServed,
+            machine: before,
+        },
+    }
+}
+
+impl Machine {
+    // A start: refused, it gives all registers 0 and M = 40.
+    pub fn start(settings: Settings) -> Stepped
+        ensures { λ r. ⌜ (r .answer ≡ spec.loadAnswer settings) × (r .machine ≡ spec.started settings) ⌝ }
+    {
+        let cache = Cache::empty();
+        let initial = Settings::initial();
+        load(
+            Machine {
+                settings: initial,
+                cache,
+            },
+            settings,
+            cache,
+        )
+    }
+
+    // A store of a value's 8 bytes.
+    pub fn store(self, at: u64, value: u64, memory: &mut [u8]) -> Stepped
+        ensures { λ r. ⌜ (r .answer ≡ spec.storedResult self (now (memory .entry)) at value .answer) × (r .machine ≡ spec.storedResult self (now (memory .entry)) at value .machine) × (now (memory .exit) ≡ spec.storedResult self (now (memory .entry)) at value .memory) ⌝ }
+    {
+        if store64(memory, at as usize, value) {
+            return Stepped {
+                answer: done(),
+                machine: self,
+            };
+        }
+        Stepped {
+            answer: Answer::Outside(PhysAddr(at), 0, 0),
+            machine: self,
+        }
+    }
+
+    // A root load: all but G places are dropped.
+    pub fn load_root(self, value: u64) -> Stepped
+        ensures { λ r. ⌜ (r .answer ≡ spec.loadAnswer (spec.withRoot (self .settings) value)) × (r .machine ≡ spec.loaded self (spec.withRoot (self .settings) value) (loadRoot (self .cache))) ⌝ }
+    {
+        let settings = self.settings;
+        let cache = self.cache;
+        let kept = cache.load_root();
+        load(
+            self,
+            Settings {
+                cr0: settings.cr0,
+                cr3: value,
+                cr4: settings.cr4,
+                efer: settings.efer,
+                width: settings.width,
+            },
+            kept,
+        )
+    }
+
+    // A settings load: CR3 stays, everything is dropped.
+    pub fn load_settings(self, cr0: u64, cr4: u64, efer: u64, width: u64) -> Stepped
+        ensures { λ r. ⌜ (r .answer ≡ spec.loadAnswer (spec.withSettings (self .settings) cr0 cr4 efer width)) × (r .machine ≡ spec.loaded self (spec.withSettings (self .settings) cr0 cr4 efer width) emptyCache) ⌝ }
+    {
+        let settings = self.settings;
+        let empty = Cache::empty();
+        load(
+            self,
+            Settings {
+                cr0,
+                cr3: settings.cr3,
+                cr4,
+                efer,
+                width,
+            },
+            empty,
+        )
+    }
+
+    // A drop of a page: an address that is not canonical changes nothing.
+    pub fn drop_page(self, address: VirtAddr) -> Stepped
+        ensures { λ r. ⌜ (r .answer ≡ spec.done) × (r .machine ≡ spec.pageDropped self address) ⌝ }
+    {
+        if !address.canonical() {
+            return Stepped {
+                answer: done(),
+                machine: self,
+            };
+        }
+        let settings = self.settings;
+        let mut cache = self.cache;
+        let page = address.tag();
+        let index = Cache::set_of(page);
+        let set = cache.sets[index as usize];
+        let dropped = set.drop_tag(index, page);
+        cache.sets[index as usize] = dropped;
+        Stepped {
+            answer: done(),
+            machine: Machine { settings, cache },
+        }
+    }
+
+    // A drop of everything.
+    pub fn drop_all(self) -> Stepped
+        ensures { λ r. ⌜ (r .answer ≡ spec.done) × (r .machine ≡ spec.withCache self emptyCache) ⌝ }
+    {
+        let settings = self.settings;
+        let cache = Cache::empty();
+        Stepped {
+            answer: done(),
+            machine: Machine { settings, cache },
+        }
+    }
+}

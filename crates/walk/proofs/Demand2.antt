@@ -1,0 +1,115 @@
+-- Demand 2, for every settings, address, access and memory.
+use Prim.Native.Nat.{ℕ, _+_, _≤_, _<_}
+use native.Mathlib.Omega.{arith}
+use mathlib.Core.Path.{_≡_, refl, ap, sym, _∙_, subst}
+use mathlib.Core.Bool.{Bool, true, false, cond}
+use mathlib.Core.List.{List}
+use mathlib.Core.Option.{Option, some, none}
+use lib.ListN.{length, getD}
+use Rattle.word.specs.Bits.{bit}
+use Rattle.settings.specs.declared.Settings.{Settings}
+use Rattle.settings.specs.Settings.{root}
+use Rattle.address.specs.declared.VirtAddr.{VirtAddr}
+use Rattle.walk.specs.declared.Access.{Access}
+use Rattle.walk.specs.declared.Answer.{Answer}
+use Rattle.walk.specs.declared.Answer.the-variants as Answer
+use Rattle.walk.specs.Access.{needed}
+use Rattle.walk.specs.Demand2.{first, stops, lacks, allInside, Gives, Refuses, Marks, Counts, Demand2, Walks}
+use Rattle.walk.specs.Path.{Path, End, Entry, page, entries, endOf}
+use Rattle.walk.specs.Translate.{translated, translatedMemory}
+use Rattle.walk.specs.Walk.{ended, walkPath}
+use Rattle.walk.proofs.Marking.{marks-bit}
+use Rattle.walk.proofs.Sound.{Sound, SoundEnd, sound, stopping, first-stop, at-end, at-most, at-least, last-read, follows}
+use Rattle.walk.proofs.Verdict as verdict
+
+module _ (s : Settings) (va : VirtAddr) (a : Access) (m : List ℕ) where
+  -- the path, its end, and the first entry that lacks a right
+  abbrev p : Path
+  p = walkPath s va m
+
+  abbrev x : End
+  x = endOf p
+
+  abbrev o : Option Entry
+  o = first (lacks s a) (entries p)
+
+  ok : Sound s m 4 p
+  ok = sound s m va 3 (root s)
+
+  known : (k : ℕ) × (k ≤ 4) × SoundEnd s m k x
+  known = at-end s m 4 p ok
+
+  stop : first (stops s) (entries p) ≡ stopping s m x
+  stop = first-stop s m 4 p ok
+
+  told : verdict.reply s va a m p ≡ verdict.verdict s va a m p x o
+  told = verdict.at-ending s va a m p (known .0) x (known .1) (known .2)
+
+  -- the answer where the first entry that lacks a right is given
+  told-with : (q : Option Entry) → o ≡ q → verdict.reply s va a m p ≡ verdict.verdict s va a m p x q
+  told-with q is = told ∙ ap (verdict.verdict s va a m p x) is
+
+  gives : Gives s va a m
+  gives = record {
+    where-due = λ whole clear allowed. verdict.address s va a m p x (known .0) (known .1) (known .2) stop (last-read p) (told-with none allowed) whole clear;
+    only-there = λ at size n done. verdict.only s va a m p x o stop refl told at size n done;
+  }
+
+  refuses : Refuses s va a m
+  refuses = record {
+    at-outside = λ l at is. (
+      subst (SoundEnd s m (known .0)) is (known .2) .2,
+      stop ∙ ap (stopping s m) is,
+      told ∙ ap (λ (y : End). verdict.verdict s va a m p y o) is,
+    );
+    at-missing = λ e found clear. verdict.missing-first s va a m p x o (known .0) (known .2) stop (last-read p) told e found clear;
+    at-reserved = λ e found present. verdict.reserved-first s va a m p x o (known .0) (known .2) stop (last-read p) told e found present;
+    at-rights = λ whole clear e found. verdict.lacking-first s va a m p x stop e (told-with (some e) found) whole clear;
+  }
+
+  marks : Marks s va a m
+  marks = record {
+    on-success = λ at size n done i k.
+        let end : (e : Entry) × (base : ℕ) × (x ≡ page e base) = verdict.page-end s va a m p x o told at size n done in
+        ap (λ (z : List ℕ). bit (getD z i 0) k) (verdict.marked s va a m p (ended (needed s a) p x) at size n done)
+        ∙ marks-bit s m (a .write) i k 4 p ok (end .0) (end .1) (end .2);
+    on-refusal = λ never. verdict.unmarked s va a m p (ended (needed s a) p x) never;
+    no-longer = verdict.same-length s va a m p (ended (needed s a) p x);
+  }
+
+  counted : (z : Answer) → verdict.reply s va a m p ≡ z → verdict.count s va a m p z ≡ length (entries p)
+  counted z is = ap (verdict.count s va a m p) (sym is) ∙ verdict.counted s va a m p x o told
+
+  most : length (entries p) + cond (allInside x) 0 1 ≤ 4
+  most = at-most s m 4 p ok
+
+  within : (n : ℕ) → n ≡ length (entries p) → allInside x ≡ true → (n ≡ length (entries p)) × (1 ≤ n) × (n ≤ 4)
+  within n is whole =
+      let few : length (entries p) + 0 ≤ 4 = subst (λ (b : Bool). length (entries p) + cond b 0 1 ≤ 4) whole most in
+      let one : 1 ≤ length (entries p) = at-least p whole in
+      (is, omega arith, omega arith)
+
+  fewer : (n : ℕ) → n ≡ length (entries p) → allInside x ≡ false → (n ≡ length (entries p)) × (n < 4)
+  fewer n is part =
+      let few : length (entries p) + 1 ≤ 4 = subst (λ (b : Bool). length (entries p) + cond b 0 1 ≤ 4) part most in
+      (is, omega arith)
+
+  counts : Counts s va a m
+  counts = record {
+    of-address = λ at size n done. within n (counted (Answer.Done at size n) done) (verdict.only s va a m p x o stop refl told at size n done .0);
+    of-fault = λ code l n fault. within n (counted (Answer.Fault code l n) fault) (verdict.fault-inside s va a m p x o told code l n fault);
+    of-outside = λ at l n out. fewer n (counted (Answer.Outside at l n) out) (verdict.outside-only s va a m p x o told at l n out);
+  }
+
+pub demand2 : (s : Settings) (address : VirtAddr) (a : Access) (memory : List ℕ) → Demand2 s address a memory
+demand2 s address a memory = record {
+  reads = follows s memory address 3 (root s);
+  gives = gives s address a memory;
+  refuses = refuses s address a memory;
+  marks = marks s address a memory;
+  counts = counts s address a memory;
+}
+
+pub walks : Walks
+unfolding translated translatedMemory
+walks s address access mode memory known served on canonical = (rw (known, served, on, canonical) refl, rw (known, served, on, canonical) refl)

@@ -1,0 +1,56 @@
+//! Aalbrett for a host in Rust: safe calls of the proved archive.
+
+mod text;
+mod walk;
+
+pub use walk::walk;
+
+/// Access: a read.
+pub const READ: u64 = 0;
+/// Access: a write.
+pub const WRITE: u64 = 1;
+/// Access: an instruction fetch.
+pub const FETCH: u64 = 2;
+
+/// Mode: supervisor.
+pub const SUPERVISOR: u64 = 0;
+/// Mode: user.
+pub const USER: u64 = 1;
+
+/// Refused: access or mode unknown.
+pub const UNKNOWN: u64 = 1;
+/// Refused: settings not served.
+pub const NOT_SERVED: u64 = 2;
+/// Refused: the address is not canonical or, with paging off, not below 2^32.
+pub const FORM: u64 = 3;
+
+/// The registers and the physical width M in bits.
+#[derive(Clone, Copy, Debug, PartialEq, Eq)]
+pub struct Settings {
+    pub cr0: u64,
+    pub cr3: u64,
+    pub cr4: u64,
+    pub efer: u64,
+    pub width: u64,
+}
+
+/// What is asked: a virtual address, how it is used and by whom.
+#[derive(Clone, Copy, Debug, PartialEq, Eq)]
+pub struct Question {
+    pub address: u64,
+    pub access: u64,
+    pub mode: u64,
+}
+
+/// What a question is answered. `reads` counts the table entries read.
+#[derive(Clone, Copy, Debug, PartialEq, Eq)]
+pub enum Answer {
+    /// The physical address; size is 1, 2 or 3 for a page of 4 KiB, 2 MiB or 1 GiB, and 0 with paging off.
+    Done { address: u64, size: u64, reads: u64 },
+    /// The table entry at this physical address lies outside memory.
+    Outside { entry: u64, level: u64, reads: u64 },
+    /// A page fault with its error code and the level of the entry at fault.
+    Fault { code: u64, level: u64, reads: u64 },
+    /// Refused before a walk: [`UNKNOWN`], [`NOT_SERVED`] or [`FORM`].
+    Refused(u64),
+}

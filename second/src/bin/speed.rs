@@ -1,0 +1,174 @@
+//! Times the product's uncached walk beside a fast one of this program.
+
+use std::hint::black_box;
+use std::time::Instant;
+
+use second::case::store;
+use second::fast::fast_walk;
+use second::host::{call, HostWalk, Question};
+use second::random::Random;
+use second::settings::Settings;
+use second::translate::{FETCH, READ, SUPERVISOR, USER, WRITE};
+
+extern "C" {
+    /// The product's uncached walk.
+    fn aalbrett_walk(
+        cr0: u64,
+        cr3: u64,
+        cr4: u64,
+        efer: u64,
+        width: u64,
+        address: u64,
+        access: u64,
+        mode: u64,
+        memory: *mut u8,
+        memory_length: usize,
+        answer: *mut u8,
+        answer_length: usize,
+    ) -> u64;
+}
+
+const QUESTIONS: usize = 64;
+const REPEATS: usize = 16;
+const ROUNDS: usize = 1000;
+const SETTINGS: Settings = Settings {
+    cr0: 0x8001_0001,
+    cr3: 0x1000,
+    cr4: 0x20,
+    efer: 0x900,
+    width: 40,
+};
+
+/// A kind of question: its name, the answer's number and detail, and its indices.
+struct Kind {
+    name: &'static str,
+    access: u64,
+    mode: u64,
+    expected: (u64, u64),
+    /// The first of 64 indices at levels 3, 2 and 1.
+    indices: [u64; 3],
+}
+
+/// The kind of that name.
+const fn kind(
+    name: &'static str,
+    (access, mode): (u64, u64),
+    expected: (u64, u64),
+    indices: [u64; 3],
+) -> Kind {
+    Kind {
+        name,
+        access,
+        mode,
+        expected,
+        indices,
+    }
+}
+
+const KINDS: [Kind; 12] = [
+    kind("4 KiB read", (READ, USER), (0, 1), [0, 0, 0]),
+    kind("4 KiB write", (WRITE, USER), (0, 1), [0, 0, 0]),
+    kind("4 KiB fetch", (FETCH, SUPERVISOR), (0, 1), [0, 0, 0]),
+    kind("2 MiB read", (READ, USER), (0, 2), [0, 128, 0]),
+    kind("2 MiB write", (WRITE, USER), (0, 2), [0, 128, 0]),
+    kind("1 GiB read", (READ, USER), (0, 3), [128, 0, 0]),
+    kind("1 GiB write", (WRITE, USER), (0, 3), [128, 0, 0]),
+    kind("missing", (READ, USER), (5, 1), [0, 0, 64]),
+    kind("reserved", (READ, USER), (5, 1), [0, 0, 128]),
+    kind("rights", (WRITE, USER), (5, 1), [0, 0, 192]),
+    kind("outside", (READ, USER), (4, 1), [0, 64, 0]),
+    kind("outside at level 2", (READ, USER), (4, 2), [64, 0, 0]),
+];
+
+/// Tables in which 64 indices of each level lead to each kind.
+fn memory() -> Vec<u8> {
+    let mut memory = vec![0; 32768];
+    for index in 0..512 {
+        let at = 8 * index;
+        store(&mut memory, 0x1000 + at, 0x2007);
+        let third = match index / 64 {
+            0 => 0x3007,
+            1 => 0x9007,
+            _ => 0x87 | (index % 256) << 30,
+        };
+        store(&mut memory, 0x2000 + at, third);
+        let second = match index / 64 {
+            0 => 0x4007,
+            1 => 0x9007,
+            _ => 0x87 | index << 21,
+        };
+        store(&mut memory, 0x3000 + at, second);
+        let first = match index / 64 {
+            0 => 0x5007 + (index << 12),
+            1 => 0,
+            2 => 0x7 | 1 << 45,
+            _ => 0x6005,
+        };
+        store(&mut memory, 0x4000 + at, first);
+    }
+    memory
+}
+
+/// The questions of one kind.
+fn questions(random: &mut Random, kind: &Kind) -> Vec<Question> {
+    let question = |random: &mut Random| {
+        let mut address = random.below(256) << 39 | random.below(4096);
+        for (first, shift) in kind.indices.iter().zip([30, 21, 12]) {
+            address |= (first + random.below(64)) << shift;
+        }
+        Question {
+            address,
+            access: kind.access,
+            mode: kind.mode,
+        }
+    };
+    (0..QUESTIONS).map(|_| question(random)).collect()
+}
+
+/// Asserts that the walk gives the kind's answer to each question.
+fn check(walk: HostWalk, kind: &Kind, questions: &[Question], memory: &mut [u8]) {
+    for question in questions {
+        let mut answer = [0; 32];
+        let number = call(walk, &SETTINGS, question, memory, &mut answer);
+        let found = (number, u64::from(answer[16]));
+        assert_eq!(found, kind.expected, "{} {question:x?}", kind.name);
+    }
+}
+
+/// The nanoseconds of one call, on the mean of all questions.
+fn time(walk: HostWalk, questions: &[Question], memory: &mut [u8]) -> f64 {
+    let mut answer = [0; 32];
+    let start = Instant::now();
+    for _ in 0..REPEATS {
+        for question in questions {
+            black_box(call(walk, &SETTINGS, question, memory, &mut answer));
+        }
+    }
+    start.elapsed().as_nanos() as f64 / (REPEATS * questions.len()) as f64
+}
+
+/// Prints nanoseconds of both walks and their ratio, for each kind.
+fn main() {
+    let mut random = Random::new(3);
+    let walks: [HostWalk; 2] = black_box([aalbrett_walk, fast_walk]);
+    println!(
+        "{:20} {:>9} {:>9} {:>6}",
+        "ns", "aalbrett", "second", "ratio"
+    );
+    for kind in &KINDS {
+        let mut memory = memory();
+        let questions = questions(&mut random, kind);
+        let mut best = [f64::MAX; 2];
+        for walk in walks {
+            check(walk, kind, &questions, &mut memory);
+        }
+        for _ in 0..ROUNDS {
+            for (walk, best) in walks.iter().zip(&mut best) {
+                *best = best.min(time(*walk, &questions, &mut memory));
+            }
+        }
+        let [first, second] = best;
+        let ratio = first / second;
+        println!("{:20} {first:9.2} {second:9.2} {ratio:6.2}", kind.name);
+    }
+}

@@ -1,0 +1,228 @@
+//! The cache: 16 sets of four places, in fill order.
+
+use crate::translate::Rights;
+
+const SETS: u64 = 16;
+const PLACES: usize = 4;
+
+/// One remembered piece of 4 KiB.
+#[derive(Clone, Copy, Debug, Default, PartialEq, Eq)]
+pub struct Place {
+    pub marked: bool,
+    pub tag: u64,
+    pub frame: u64,
+    pub size: u64,
+    pub write: bool,
+    pub user: bool,
+    pub fetch: bool,
+    pub dirty: bool,
+    pub global: bool,
+}
+
+impl Place {
+    /// Whether the place counts as filled in the set of that number.
+    pub fn filled(&self, set: u64) -> bool {
+        self.marked
+            && self.tag < 1 << 52
+            && self.tag % SETS == set
+            && self.frame < 1 << 40
+            && (1..=3).contains(&self.size)
+    }
+
+    /// The rights that the place holds.
+    pub fn rights(&self) -> Rights {
+        Rights {
+            write: self.write,
+            user: self.user,
+            fetch: self.fetch,
+        }
+    }
+}
+
+/// Four places, the latest fill first.
+#[derive(Clone, Copy, Debug, Default, PartialEq, Eq)]
+pub struct Set {
+    pub places: [Place; PLACES],
+}
+
+impl Set {
+    /// The set with these places in order, as many as there is room for, zeros after them.
+    fn of(places: impl Iterator<Item = Place>) -> Set {
+        let mut set = Set::default();
+        for (room, place) in set.places.iter_mut().zip(places) {
+            *room = place;
+        }
+        set
+    }
+
+    /// The set with only its filled places that are wanted, gaps closed in order.
+    fn keep(self, number: u64, wanted: impl Fn(&Place) -> bool) -> Set {
+        let places = self.places.into_iter();
+        Set::of(places.filter(|place| place.filled(number) && wanted(place)))
+    }
+
+    /// The set with the new place first and no other of its tag.
+    fn fill(self, number: u64, new: Place) -> Set {
+        let others = self.keep(number, |place| place.tag != new.tag);
+        let filled = others.places.into_iter().filter(|place| place.marked);
+        Set::of([new].into_iter().chain(filled))
+    }
+}
+
+/// The number of a tag's set.
+pub fn set_of(tag: u64) -> u64 {
+    tag % SETS
+}
+
+/// The remembered translations.
+#[derive(Clone, Debug, PartialEq, Eq)]
+pub struct Cache {
+    pub sets: [Set; SETS as usize],
+}
+
+impl Cache {
+    /// The cache that holds nothing, all zeros.
+    pub fn empty() -> Cache {
+        Cache {
+            sets: [Set::default(); SETS as usize],
+        }
+    }
+
+    /// The filled places with the tag, in order.
+    pub fn with_tag(&self, tag: u64) -> impl Iterator<Item = &Place> {
+        let number = set_of(tag);
+        let places = self.sets[number as usize].places.iter();
+        places.filter(move |place| place.filled(number) && place.tag == tag)
+    }
+
+    /// The first place with the tag that allows the access, and has D for a write.
+    pub fn hit(&self, tag: u64, needed: Rights, write: bool) -> Option<&Place> {
+        let serves = |place: &&Place| place.rights().allow(needed) && (place.dirty || !write);
+        self.with_tag(tag).find(serves)
+    }
+
+    /// Puts a new place first in its set.
+    pub fn fill(&mut self, new: Place) {
+        let number = set_of(new.tag);
+        let set = &mut self.sets[number as usize];
+        *set = set.fill(number, new);
+    }
+
+    /// Drops the places with the tag, G or not.
+    pub fn drop_tag(&mut self, tag: u64) {
+        let number = set_of(tag);
+        let set = &mut self.sets[number as usize];
+        *set = set.keep(number, |place| place.tag != tag);
+    }
+
+    /// Drops all but G places.
+    pub fn keep_global(&mut self) {
+        for (number, set) in (0..).zip(&mut self.sets) {
+            *set = set.keep(number, |place| place.global);
+        }
+    }
+}
+
+#[cfg(test)]
+mod tests {
+    use super::{Cache, Place, Set};
+    use crate::translate::Rights;
+
+    const NOTHING: Rights = Rights {
+        write: false,
+        user: false,
+        fetch: false,
+    };
+
+    /// A filled place with the tag.
+    fn place(tag: u64) -> Place {
+        Place {
+            marked: true,
+            tag,
+            frame: tag + 1,
+            size: 1,
+            ..Place::default()
+        }
+    }
+
+    /// The tags of set 3 in order, 0 for a place of zeros.
+    fn tags(cache: &Cache) -> [u64; 4] {
+        cache.sets[3].places.map(|place| place.tag)
+    }
+
+    /// The latest fill is first, a fifth falls out, a refill moves to the front.
+    #[test]
+    fn fill_order_decides() {
+        let mut cache = Cache::empty();
+        for tag in [0x13, 0x23, 0x33, 0x43] {
+            cache.fill(place(tag));
+        }
+        assert_eq!(tags(&cache), [0x43, 0x33, 0x23, 0x13]);
+        assert!(cache.hit(0x13, NOTHING, false).is_some());
+        cache.fill(place(0x53));
+        assert_eq!(tags(&cache), [0x53, 0x43, 0x33, 0x23]);
+        cache.fill(place(0x33));
+        assert_eq!(tags(&cache), [0x33, 0x53, 0x43, 0x23]);
+        cache.drop_tag(0x53);
+        assert_eq!(tags(&cache), [0x33, 0x43, 0x23, 0]);
+    }
+
+    /// A root load leaves G places in order, and zeros.
+    #[test]
+    fn global_places_stay() {
+        let mut cache = Cache::empty();
+        for tag in [0x13, 0x23, 0x33] {
+            cache.fill(Place {
+                global: tag != 0x23,
+                ..place(tag)
+            });
+        }
+        cache.keep_global();
+        assert_eq!(tags(&cache), [0x33, 0x13, 0, 0]);
+        assert_eq!(cache.sets[3].places[2], Place::default());
+    }
+
+    /// A place that does not count as filled is never hit and becomes zeros.
+    #[test]
+    fn places_that_are_not_filled() {
+        let good = place(0x13);
+        let wrong = [
+            Place {
+                marked: false,
+                ..good
+            },
+            Place { tag: 0x14, ..good },
+            Place { size: 0, ..good },
+            Place { size: 4, ..good },
+            Place {
+                frame: 1 << 40,
+                ..good
+            },
+            Place {
+                tag: 1 << 52 | 3,
+                ..good
+            },
+        ];
+        for bad in wrong {
+            let mut cache = Cache::empty();
+            cache.sets[3].places = [bad, good, bad, bad];
+            assert_eq!(
+                cache.with_tag(bad.tag).count(),
+                usize::from(bad.tag == 0x13)
+            );
+            cache.drop_tag(0x23);
+            assert_eq!(cache.sets[3], Set::of([good].into_iter()));
+        }
+    }
+
+    /// A write needs D, and a hit is the first place that serves.
+    #[test]
+    fn the_first_place_that_serves() {
+        let mut cache = Cache::empty();
+        let (clean, mut dirty) = (place(0x13), place(0x13));
+        (dirty.dirty, dirty.frame) = (true, 9);
+        cache.sets[3].places = [clean, dirty, clean, clean];
+        let frame = |write| cache.hit(0x13, NOTHING, write).map(|place| place.frame);
+        assert_eq!((frame(false), frame(true)), (Some(0x14), Some(9)));
+    }
+}

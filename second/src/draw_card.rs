@@ -1,0 +1,191 @@
+//! Single random cards, on few tables and pages.
+
+use crate::card::Card;
+use crate::random::Random;
+use crate::settings::Settings;
+
+/// The entries that a deck may store, with the values that suit its tables.
+///
+/// Both roots have an entry that points at the root itself, one entry of level 3 points outside,
+/// two of level 2 lead to one table, and the pages of level 1 share a set.
+pub const ENTRIES: [(u64, u64); 20] = [
+    (0x1000, 0x2007),
+    (0x1018, 0x1007),
+    (0x1FF8, 0x1003),
+    (0x6000, 0x2007),
+    (0x6018, 0x6007),
+    (0x2000, 0x3007),
+    (0x2008, 0x4000_0087),
+    (0x2010, 0x9007),
+    (0x2018, 0x2007),
+    (0x3010, 0x4007),
+    (0x3018, 0x80_0087),
+    (0x3020, 0x4007),
+    (0x3028, 0x7007),
+    (0x4018, 0x5007),
+    (0x4020, 0x6003),
+    (0x4098, 0x8000_0000_0000_7007),
+    (0x4118, 0x40_0000_8007),
+    (0x4198, 0x3005),
+    (0x4218, 0x5007),
+    (0x7018, 0x2007),
+];
+
+/// The pages that a deck asks for; the first ones belong to set 3 and have good entries.
+pub const PAGES: [u64; 19] = [
+    0x40_3000,
+    0x41_3000,
+    0x42_3000,
+    0x43_3000,
+    0x60_3000,
+    0x44_3000,
+    0x80_3000,
+    0x81_3000,
+    0x61_3000,
+    0x4000_3000,
+    0x4123_3000,
+    0xA0_3000,
+    0x60_4000,
+    0x40_4000,
+    0x4000_4000,
+    0x0000_0180_C060_3000,
+    0xFFFF_FFFF_FFFF_F000,
+    0xFFFF_FF80_0060_3000,
+    0x8000_3000,
+];
+/// So many of the pages are the first ones.
+pub const SET_PAGES: u64 = 12;
+
+/// Pages with the address of an entry on their path and its usual value.
+pub const PATH_ENTRIES: [(u64, u64, u64); 15] = [
+    (0x40_3000, 0x4018, 0x5007),
+    (0x41_3000, 0x4098, 0x8000_0000_0000_7007),
+    (0x43_3000, 0x4198, 0x3005),
+    (0x44_3000, 0x4218, 0x5107),
+    (0x80_3000, 0x4018, 0x5107),
+    (0x60_3000, 0x3018, 0x80_0087),
+    (0x60_4000, 0x3018, 0x80_0087),
+    (0x4000_3000, 0x2008, 0x4000_0187),
+    (0x4000_4000, 0x2008, 0x4000_0087),
+    (0x40_3000, 0x3010, 0x4007),
+    (0x41_3000, 0x3010, 0x4007),
+    (0x60_3000, 0x2000, 0x3007),
+    (0x42_3000, 0x3010, 0x4007),
+    (0x44_3000, 0x2000, 0x3007),
+    (0x60_4000, 0x2000, 0x3007),
+];
+
+/// Bits of an entry that are worth turning over.
+const BITS: [u64; 10] = [
+    1 << 0,
+    1 << 1,
+    1 << 2,
+    1 << 6,
+    1 << 7,
+    1 << 8,
+    1 << 12,
+    1 << 13,
+    1 << 38,
+    1 << 63,
+];
+
+/// A translation of one of the pages, now and then of another address or unknown.
+pub fn translation(random: &mut Random, pages: &[u64]) -> Card {
+    let page = match random.below(40) {
+        0 => 1 << random.between(47, 63),
+        1 => random.word(),
+        2..=5 => random.pick(&PAGES),
+        _ => random.pick(pages),
+    };
+    let access = random.pick(&[0, 0, 0, 0, 1, 1, 1, 2, 2]);
+    let mode = random.pick(&[0, 1, 1]);
+    Card::Translate {
+        address: page | random.below(4096),
+        access: if random.chance(1) { 3 } else { access },
+        mode: if random.chance(1) { 2 } else { mode },
+    }
+}
+
+/// A store into an entry: its usual value, with another frame or with bits turned over.
+pub fn table_store(random: &mut Random, address: u64, usual: u64) -> Card {
+    let bit = random.pick(&BITS);
+    let frame = random.between(1, 10) << 12;
+    let value = match random.below(8) {
+        0..=1 => usual,
+        2..=4 => usual ^ bit,
+        5..=6 => usual & 0xFFF | frame,
+        _ => usual & 0xFFF | frame | bit,
+    };
+    let shift = if random.chance(6) { random.below(8) } else { 0 };
+    Card::Store {
+        address: address + shift,
+        value,
+    }
+}
+
+/// A store at the end of memory or beyond it.
+pub fn outside_store(random: &mut Random) -> Card {
+    let far = random.word();
+    let near = 32768 - random.below(16);
+    Card::Store {
+        address: random.pick(&[near, near, far, u64::MAX - 7, u64::MAX, 32760, 32761]),
+        value: random.word(),
+    }
+}
+
+/// A drop of one of the pages, now and then of a non-canonical address.
+pub fn drop_page(random: &mut Random, pages: &[u64]) -> Card {
+    let page = random.pick(pages) | random.below(4096);
+    let odd = page ^ 1 << random.between(47, 63);
+    Card::DropPage {
+        address: random.pick(&[page, page, page, page, odd]),
+    }
+}
+
+/// A load of one of the two roots, now and then of one too large.
+pub fn load_root(random: &mut Random) -> Card {
+    let refused = 1 << random.between(32, 63);
+    let value = match random.below(20) {
+        0..=1 => refused,
+        2 => u64::MAX,
+        3..=4 => 0x1FFF,
+        5..=12 => 0x6000,
+        _ => 0x1000,
+    };
+    Card::LoadRoot { value }
+}
+
+/// Served settings with paging on; PGE in so many of a hundred draws.
+pub fn settings(random: &mut Random, global: u64) -> Card {
+    let cr0 = Settings::PE | Settings::PG | random.flag(Settings::WP, 60);
+    let cr4 = Settings::PAE | random.flag(Settings::PGE, global);
+    Card::LoadSettings {
+        cr0: cr0 as u32,
+        cr4: cr4 as u32,
+        efer: Settings::LME | random.flag(Settings::NXE, 75),
+        width: random.pick(&[40, 40, 40, 40, 36, 39, 52, 32]),
+    }
+}
+
+/// Settings that break one of the rules.
+pub fn refused_settings(random: &mut Random) -> Card {
+    let cr0 = random.pick(&[0x8001_0001, 0x8001_0001, 0x8001_0000]);
+    let left_out = 0x20 | 1 << random.pick(&[12, 17, 20, 21, 22, 23, 24]);
+    Card::LoadSettings {
+        cr0,
+        cr4: random.pick(&[0x20, 0, left_out]),
+        efer: random.pick(&[0x900, 0x800]),
+        width: random.pick(&[40, 31, 53, 255]),
+    }
+}
+
+/// Settings with paging off and other bits anything.
+pub fn paging_off(random: &mut Random) -> Card {
+    let word = random.word();
+    Card::LoadSettings {
+        cr0: word as u32 & !(Settings::PG as u32),
+        cr4: (word >> 32) as u32,
+        efer: random.word(),
+        width: random.pick(&[40, 32, 52]),
+    }
+}

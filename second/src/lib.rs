@@ -1,0 +1,26 @@
+//! An independent program for document 01: walks, remembered translations and cards.
+
+pub mod answer;
+pub mod cache;
+pub mod card;
+pub mod case;
+pub mod compare;
+pub mod compare_decks;
+pub mod damage;
+pub mod deal;
+pub mod deck;
+pub mod deck_tally;
+pub mod draw;
+pub mod draw_card;
+pub mod fast;
+pub mod host;
+pub mod machine;
+pub mod random;
+pub mod seed;
+pub mod settings;
+pub mod tally;
+pub mod translate;
+pub mod walk;
+
+#[cfg(test)]
+mod exercises;

@@ -1,0 +1,19 @@
+//! The seed of a comparison.
+
+use std::env;
+use std::io::{stderr, Write};
+use std::time::{SystemTime, UNIX_EPOCH};
+
+/// The seed that SEED names in decimal or hexadecimal, else one from the clock; shown.
+pub fn seed() -> u64 {
+    let named = env::var("SEED").ok().map(|text| {
+        let digits = text.strip_prefix("0x");
+        let number = digits.map_or_else(|| text.parse(), |d| u64::from_str_radix(d, 16));
+        number.expect("SEED is a number")
+    });
+    let since = SystemTime::now().duration_since(UNIX_EPOCH);
+    let clock = since.map_or(0, |since| since.as_nanos() as u64);
+    let seed = named.unwrap_or(clock);
+    writeln!(stderr(), "SEED={seed:#x}").expect("standard error is open");
+    seed
+}

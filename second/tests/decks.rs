@@ -1,0 +1,32 @@
+//! The product's card program beside this one, on random decks.
+
+use std::env;
+use std::io::Write;
+use std::process::{Command, Stdio};
+
+use second::compare_decks::decks;
+use second::seed::seed;
+
+const DECKS: u64 = 3000;
+
+/// What the program prints for a deck on its standard input.
+fn run(program: &str, input: &[u8]) -> String {
+    let mut child = Command::new(program)
+        .stdin(Stdio::piped())
+        .stdout(Stdio::piped())
+        .spawn()
+        .expect("the program of AALBRETT_DECK starts");
+    let mut stdin = child.stdin.take().expect("its input is open");
+    stdin.write_all(input).expect("it reads its deck");
+    drop(stdin);
+    let output = child.wait_with_output().expect("it ends");
+    assert!(output.status.success(), "it ends with {}", output.status);
+    String::from_utf8(output.stdout).expect("it prints text")
+}
+
+/// The lines are the same on every deck.
+#[test]
+fn the_products_decks_agree() {
+    let program = env::var("AALBRETT_DECK").expect("AALBRETT_DECK names the card program");
+    decks(seed(), DECKS, |input| run(&program, input));
+}
