@@ -23,7 +23,7 @@ use Rattle.series.specs.Series.{Stand, gives, run, start}
 use Rattle.series.specs.History.{Latest, none, walk, latest}
 use Rattle.series.specs.Demand.{Premise, AsFresh, told, walks, FirstHalf, AnyWalk}
 use Rattle.series.proofs.Lists.{has-member}
-use Rattle.series.proofs.Places.{hit-fresh}
+use Rattle.series.proofs.Hits.{hit-fresh}
 use Rattle.series.proofs.Translations.{Goes, quiet, hits, fills, goes}
 use Rattle.series.proofs.Translations as Ways
 use Rattle.series.proofs.Sound.{Backed, Own, Sound}

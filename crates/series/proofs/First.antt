@@ -26,17 +26,18 @@ use Rattle.cache.specs.declared.Place.{Place}
 use Rattle.cache.specs.Places.{setIndex, filledIn}
 use Rattle.cache.specs.Whole.{held, emptyCache, fillCache, loadRoot}
 use Rattle.cache.specs.Whole as Whole
-use Rattle.cache.proofs.Laws.{Sixteen, empty-sixteen, fill-sixteen, drop-sixteen, root-sixteen}
+use Rattle.cache.proofs.Laws.{empty-sixteen, fill-sixteen, drop-sixteen, root-sixteen}
 use Rattle.machine.specs.declared.Machine.{Machine}
 use Rattle.machine.specs.Remember.{placeOf, hit}
 use Rattle.machine.specs.Calls.{Call, Result, step, withCache, withRoot, withSettings, done, started}
 use Rattle.machine.specs.Calls as Calls
 use Rattle.series.specs.Series.{Event, call, stores, Stand, replaced, leads, run, start}
-use Rattle.series.specs.History.{Latest, none, walk, walkOf, drops, kept, noted, notedEvent, latest}
+use Rattle.series.specs.History.{Latest, none, walk, walkOf, succeeded, succeeded, drops, kept, noted, notedEvent, latest}
 use Rattle.series.proofs.Marking.{marks-length}
-use Rattle.series.proofs.Places.{Backs, found-reads, found-memory, found-filled}
+use Rattle.series.proofs.Places.{found-reads, found-memory, found-filled}
+use Rattle.series.proofs.Hits.{Backs}
 use Rattle.series.proofs.Asked.{Due, due, served-wide}
-use Rattle.series.proofs.Translations.{Goes, quiet, hits, fills, goes}
+use Rattle.series.proofs.Translations.{Goes, quiet, hits, fills, filledResult, goes}
 use Rattle.series.proofs.Translations as Ways
 use Rattle.series.proofs.Lists.{Has}
 use Rattle.series.proofs.Sound.{Own, Sound, kept-all, noted-quiet, noted-other, noted-walk, dropped-own, dropped-any, emptied, filled-own, filled-other, rooted}
@@ -56,37 +57,31 @@ module _ (t size : ℕ) (m : Machine) (memory : List ℕ) (w : Latest) (sound : 
       subst (Sound t size (record { machine = m; memory = after })) (sym same)
       (record { sixteen = sound .sixteen; as-long = long ∙ sound .as-long; backed = sound .backed })
 
+  -- a drop of a page, after which the same is known of every other
+  after-drop : (u : ℕ) (known : Latest) → (eqb u t ≡ false → known ≡ w)
+      → Sound t size (record { machine = withCache m (Whole.dropPage u (m .cache)); memory = memory }) known
+  after-drop u known same-known =
+      record { sixteen = drop-sixteen u (m .cache) (sound .sixteen); as-long = sound .as-long; backed = by-cases (eqb u t) own other }
+    where
+      own : eqb u t ≡ true → Has (Own t s size known) (held (setIndex t) (Whole.dropPage u (m .cache)))
+      own same =
+          subst (λ (v : ℕ). Has (Own t s size known) (held (setIndex t) (Whole.dropPage v (m .cache)))) (sym (eqb-true u t same))
+          (dropped-own t size s known (m .cache) (sound .sixteen))
+
+      other : eqb u t ≡ false → Has (Own t s size known) (held (setIndex t) (Whole.dropPage u (m .cache)))
+      other apart =
+          subst (λ (v : Latest). Has (Own t s size v) (held (setIndex t) (Whole.dropPage u (m .cache)))) (sym (same-known apart))
+          (dropped-any t size s w (m .cache) (sound .sixteen) u (sound .backed))
+
   module _ (address : VirtAddr) (access mode : ℕ) where
     abbrev this : Call
     this = Calls.translate address access mode
 
-    after-drop : (r : Answer) → Next this (record { answer = r; machine = withCache m (Whole.dropPage (tag address) (m .cache)); memory = memory })
-    after-drop r = by-cases (eqb (tag address) t) own other
-      where
-        own : eqb (tag address) t ≡ true → Next this (record { answer = r; machine = withCache m (Whole.dropPage (tag address) (m .cache)); memory = memory })
-        own same =
-            record {
-              sixteen = drop-sixteen (tag address) (m .cache) (sound .sixteen);
-              as-long = sound .as-long;
-              backed =
-                  subst (λ (u : ℕ). Has (Own t s size (noted t s memory this r memory w)) (held (setIndex t) (Whole.dropPage u (m .cache))))
-                  (sym (eqb-true (tag address) t same))
-                  (dropped-own t size s (noted t s memory this r memory w) (m .cache) (sound .sixteen));
-            }
-
-        other : eqb (tag address) t ≡ false → Next this (record { answer = r; machine = withCache m (Whole.dropPage (tag address) (m .cache)); memory = memory })
-        other apart =
-            subst (Sound t size (record { machine = withCache m (Whole.dropPage (tag address) (m .cache)); memory = memory }))
-            (sym (noted-other t s memory memory address access mode r w apart))
-            (record {
-              sixteen = drop-sixteen (tag address) (m .cache) (sound .sixteen);
-              as-long = sound .as-long;
-              backed = dropped-any t size s w (m .cache) (sound .sixteen) (tag address) (sound .backed);
-            })
-
+    -- a fill
     after-fill : (a : Access) (f : Mapping) → asked s address access mode ≡ Asked.On a → walkAnswer s address a memory ≡ Walked.Mapped f
-        → Next this (record { answer = answered s address a (Walked.Mapped f); machine = withCache m (fillCache (placeOf s address a f) (m .cache)); memory = walkMemory s address a memory })
-    after-fill a f on is = by-cases (eqb (tag address) t) own other
+        → Next this (filledResult m memory address access mode a f)
+    after-fill a f on is =
+        record { sixteen = fill-sixteen new (m .cache) (sound .sixteen); as-long = long; backed = by-cases (eqb (tag address) t) own other }
       where
         new : Place
         new = placeOf s address a f
@@ -100,21 +95,18 @@ module _ (t size : ℕ) (m : Machine) (memory : List ℕ) (w : Latest) (sound : 
         is-due : Due s address access mode a
         is-due = due s address access mode a on
 
-        is-filled : filledIn (setIndex (tag address)) (placeOf s address a f) ≡ true
+        is-filled : filledIn (setIndex (tag address)) new ≡ true
         is-filled = found-filled s address a memory f is (is-due .is-canonical)
 
-        six : Sixteen (fillCache (placeOf s address a f) (m .cache))
-        six = fill-sixteen (placeOf s address a f) (m .cache) (sound .sixteen)
-
-        long : length (walkMemory s address a memory) ≡ size
+        long : length left ≡ size
         long =
             ap (λ (x : List ℕ). length x) (found-memory s address a memory f is) ∙ marks-length (a .write) (walkPath s address memory) memory
             ∙ sound .as-long
 
-        success : not (eqb (f .reads) 0) ≡ true
+        success : succeeded r ≡ true
         success = ap not (ne-eqb (f .reads) 0 (λ e. omega (arith, found-reads s address a memory f is)))
 
-        backs : Backs s size (walkOf s address memory (walkMemory s address a memory)) (placeOf s address a f)
+        backs : Backs s size (walkOf s address memory left) new
         backs =
             record {
               under = s;
@@ -130,30 +122,17 @@ module _ (t size : ℕ) (m : Machine) (memory : List ℕ) (w : Latest) (sound : 
               is-walk = refl;
             }
 
-        own : eqb (tag address) t ≡ true
-            → Next this (record { answer = answered s address a (Walked.Mapped f); machine = withCache m (fillCache (placeOf s address a f) (m .cache)); memory = walkMemory s address a memory })
+        own : eqb (tag address) t ≡ true → Has (Own t s size (noted t s memory this r left w)) (held (setIndex t) (fillCache new (m .cache)))
         own same =
-            subst (Sound t size (record { machine = withCache m (fillCache (placeOf s address a f) (m .cache)); memory = walkMemory s address a memory }))
-            (sym (noted-walk t s memory (walkMemory s address a memory) address access mode (answered s address a (Walked.Mapped f)) w same success))
-            (record {
-              sixteen = six;
-              as-long = long;
-              backed =
-                  filled-own t size s (walk (walkOf s address memory (walkMemory s address a memory))) (m .cache) (sound .sixteen)
-                  (placeOf s address a f) (eqb-true (tag address) t same) is-filled backs;
-            })
+            subst (λ (v : Latest). Has (Own t s size v) (held (setIndex t) (fillCache new (m .cache))))
+            (sym (noted-walk t s memory left address access mode r w same success))
+            (filled-own t size s (walk (walkOf s address memory left)) (m .cache) (sound .sixteen) new (eqb-true (tag address) t same) is-filled backs)
 
-        other : eqb (tag address) t ≡ false
-            → Next this (record { answer = answered s address a (Walked.Mapped f); machine = withCache m (fillCache (placeOf s address a f) (m .cache)); memory = walkMemory s address a memory })
+        other : eqb (tag address) t ≡ false → Has (Own t s size (noted t s memory this r left w)) (held (setIndex t) (fillCache new (m .cache)))
         other apart =
-            subst (Sound t size (record { machine = withCache m (fillCache (placeOf s address a f) (m .cache)); memory = walkMemory s address a memory }))
-            (sym (noted-other t s memory (walkMemory s address a memory) address access mode (answered s address a (Walked.Mapped f)) w apart))
-            (record {
-              sixteen = six;
-              as-long = long;
-              backed =
-                  filled-other t size s w (m .cache) (sound .sixteen) (placeOf s address a f) (eqb-false (tag address) t apart) is-filled (sound .backed);
-            })
+            subst (λ (v : Latest). Has (Own t s size v) (held (setIndex t) (fillCache new (m .cache))))
+            (sym (noted-other t s memory left address access mode r w apart))
+            (filled-other t size s w (m .cache) (sound .sixteen) new (eqb-false (tag address) t apart) is-filled (sound .backed))
 
     -- a translation
     translation : Goes m memory address access mode → Next this (step m memory this)
@@ -162,7 +141,8 @@ module _ (t size : ℕ) (m : Machine) (memory : List ℕ) (w : Latest) (sound : 
     translation (hits a p found is fresh-is left-is) =
         subst (Next this) (sym is) (unchanged this (hit address p) memory refl (noted-quiet t s memory memory address access mode (hit address p) w refl refl))
     translation (fills a f on found is fresh-is left-is) = subst (Next this) (sym is) (after-fill a f on found)
-    translation (Ways.drops r no-success fault is fresh-is left-is) = subst (Next this) (sym is) (after-drop r)
+    translation (Ways.drops r no-success fault is fresh-is left-is) =
+        subst (Next this) (sym is) (after-drop (tag address) (noted t s memory this r memory w) (noted-other t s memory memory address access mode r w))
 
   -- a store
   after-store : (at value : ℕ) → Next (Calls.store at value) (step m memory (Calls.store at value))
@@ -221,30 +201,8 @@ module _ (t size : ℕ) (m : Machine) (memory : List ℕ) (w : Latest) (sound : 
     where
       go : (b : Bool) → canonical address ≡ b → Next (Calls.page address)
           (record { answer = done; machine = cond b (withCache m (Whole.dropPage (tag address) (m .cache))) m; memory = memory })
-      go true form = by-cases (eqb (tag address) t) own other
-        where
-          own : eqb (tag address) t ≡ true → Next (Calls.page address)
-              (record { answer = done; machine = withCache m (Whole.dropPage (tag address) (m .cache)); memory = memory })
-          own same =
-              record {
-                sixteen = drop-sixteen (tag address) (m .cache) (sound .sixteen);
-                as-long = sound .as-long;
-                backed =
-                    subst (λ (u : ℕ). Has (Own t s size (kept t (Calls.page address) done w)) (held (setIndex t) (Whole.dropPage u (m .cache))))
-                    (sym (eqb-true (tag address) t same))
-                    (dropped-own t size s (kept t (Calls.page address) done w) (m .cache) (sound .sixteen));
-              }
-
-          other : eqb (tag address) t ≡ false → Next (Calls.page address)
-              (record { answer = done; machine = withCache m (Whole.dropPage (tag address) (m .cache)); memory = memory })
-          other apart =
-              subst (Sound t size (record { machine = withCache m (Whole.dropPage (tag address) (m .cache)); memory = memory }))
-              (sym (kept-all t (Calls.page address) done w (λ v. rw (form, apart))))
-              (record {
-                sixteen = drop-sixteen (tag address) (m .cache) (sound .sixteen);
-                as-long = sound .as-long;
-                backed = dropped-any t size s w (m .cache) (sound .sixteen) (tag address) (sound .backed);
-              })
+      go true form =
+          after-drop (tag address) (kept t (Calls.page address) done w) (λ apart. kept-all t (Calls.page address) done w (λ v. rw (form, apart)))
       go false form = unchanged (Calls.page address) done memory refl (kept-all t (Calls.page address) done w (λ v. rw form))
 
   -- every call

@@ -73,12 +73,12 @@ pub canonical-same : (first later : VirtAddr) → tag first ≡ tag later → ca
 canonical-same first later same =
     ap (λ (x : ℕ). eqb x 0 || eqb x (2 ^ 17 - 1)) (high-tag first ∙ ap (λ (t : ℕ). t / 2 ^ 35) same ∙ sym (high-tag later))
 
-either : (x y : ℕ) (a b : Bool) → a ≡ eqb x 0 → b ≡ eqb x (2 ^ 17 - 1) → (a || b) ≡ true → x < 2 ^ 17
-either x y true b ea eb h = let e = eqb-true x 0 (sym ea) in omega arith
-either x y false b ea eb h = let e = eqb-true x (2 ^ 17 - 1) (sym eb ∙ h) in omega arith
+either : (x : ℕ) (a b : Bool) → a ≡ eqb x 0 → b ≡ eqb x (2 ^ 17 - 1) → (a || b) ≡ true → x < 2 ^ 17
+either x true b ea eb h = let e = eqb-true x 0 (sym ea) in omega arith
+either x false b ea eb h = let e = eqb-true x (2 ^ 17 - 1) (sym eb ∙ h) in omega arith
 
 -- a canonical address has a tag below 2^52
 pub tag-small : (va : VirtAddr) → canonical va ≡ true → tag va < 2 ^ 52
 tag-small va h =
-    let small = either (va .0 / 2 ^ 47) 0 (eqb (va .0 / 2 ^ 47) 0) (eqb (va .0 / 2 ^ 47) (2 ^ 17 - 1)) refl refl h in
+    let small = either (va .0 / 2 ^ 47) (eqb (va .0 / 2 ^ 47) 0) (eqb (va .0 / 2 ^ 47) (2 ^ 17 - 1)) refl refl h in
     omega arith

@@ -26,10 +26,6 @@ has-take P zero ps h = tt
 has-take P (suc n) [] h = tt
 has-take P (suc n) (p ∷ ps) h = (h .0, has-take P n ps (h .1))
 
-pub has-map : {P Q : Place → Type 0} → ((p : Place) → P p → Q p) → (ps : List Place) → Has P ps → Has Q ps
-has-map f [] h = tt
-has-map f (p ∷ ps) h = (f p (h .0), has-map f ps (h .1))
-
 pub has-member : (P : Place → Type 0) {p : Place} {ps : List Place} → List·Memᴰ p ps → Has P ps → P p
 has-member P (List·Memᴰ·head e) h = subst P (sym e) (h .0)
 has-member P (List·Memᴰ·tail m) h = has-member P m (h .1)

@@ -22,7 +22,8 @@ use Rattle.machine.specs.Calls.{Call, withRoot}
 use Rattle.machine.specs.Calls as Calls
 use Rattle.series.specs.Series.{Stand}
 use Rattle.series.specs.History.{Walk, Latest, none, walk, walkOf, succeeded, faulted, accepted, drops, kept, noted}
-use Rattle.series.proofs.Places.{Alike, Backs, backs-global}
+use Rattle.series.proofs.Places.{Alike}
+use Rattle.series.proofs.Hits.{Backs, backs-global}
 use Rattle.series.proofs.Lists.{Has, has-keep, has-take, keep-has}
 
 -- a place is backed by the latest walk of its page
@@ -144,6 +145,11 @@ rooted t size s value w r c sixteen ok h =
     stay none p is-global own same = own same
     stay (walk v) p is-global own same = go (v .global) refl (own same)
       where
-        go : (b : Bool) → v .global ≡ b → Backs s size v p → Backed (withRoot s value) size (cond (accepted r && not b) none (walk v)) p
-        go true e k = rw ok (alike-backs s (withRoot s value) size v p (root-alike s value) k)
+        spared : v .global ≡ true → drops t v (Calls.root value) r ≡ false
+        spared e = rw ok (ap not e)
+
+        go : (b : Bool) → v .global ≡ b → Backs s size v p → Backed (withRoot s value) size (kept t (Calls.root value) r (walk v)) p
+        go true e k =
+            subst (λ (d : Bool). Backed (withRoot s value) size (cond d none (walk v)) p) (sym (spared e))
+            (alike-backs s (withRoot s value) size v p (root-alike s value) k)
         go false e k = contradiction (sym (root-takes p) ∙ is-global) (backs-global s size v p k ∙ e)

@@ -41,17 +41,27 @@ module _ (m : Machine) (memory : List ℕ) (address : VirtAddr) (access mode : �
   abbrev left : List ℕ
   left = translatedMemory s address access mode memory
 
+  -- the result of a walk that fills, and of one that drops
+  abbrev pub filledResult : Access → Mapping → Result
+  filledResult a f =
+      record {
+        answer = answered s address a (Walked.Mapped f);
+        machine = withCache m (fillCache (placeOf s address a f) (m .cache));
+        memory = walkMemory s address a memory;
+      }
+
+  abbrev pub droppedResult : Answer → Result
+  droppedResult r = record { answer = r; machine = withCache m (Whole.dropPage (tag address) (m .cache)); memory = memory }
+
   -- how a translation goes
   pub data Goes : Type 0 where
     quiet : (r : Answer) → succeeded r ≡ false → faulted r ≡ false → result ≡ only r m memory → freshly ≡ r → left ≡ memory → Goes
     hits : (a : Access) (p : Place) → findCache (wanted s address a) (m .cache) ≡ Found.At p → result ≡ only (hit address p) m memory
         → freshly ≡ answered s address a (walkAnswer s address a memory) → left ≡ walkMemory s address a memory → Goes
     fills : (a : Access) (f : Mapping) → asked s address access mode ≡ Asked.On a → walkAnswer s address a memory ≡ Walked.Mapped f
-        → result ≡ record { answer = answered s address a (Walked.Mapped f); machine = withCache m (fillCache (placeOf s address a f) (m .cache)); memory = walkMemory s address a memory }
-        → freshly ≡ answered s address a (Walked.Mapped f) → left ≡ walkMemory s address a memory → Goes
+        → result ≡ filledResult a f → freshly ≡ answered s address a (Walked.Mapped f) → left ≡ walkMemory s address a memory → Goes
     drops : (r : Answer) → succeeded r ≡ false → faulted r ≡ true
-        → result ≡ record { answer = r; machine = withCache m (Whole.dropPage (tag address) (m .cache)); memory = memory }
-        → freshly ≡ r → left ≡ memory → Goes
+        → result ≡ droppedResult r → freshly ≡ r → left ≡ memory → Goes
 
   by-walk : (a : Access) (w : Walked) → asked s address access mode ≡ Asked.On a → findCache (wanted s address a) (m .cache) ≡ Found.Nothing
       → walkAnswer s address a memory ≡ w → Goes

@@ -10,7 +10,6 @@ use Rattle.settings.specs.Settings.{root}
 use Rattle.address.specs.declared.VirtAddr.{VirtAddr}
 use Rattle.address.specs.Address.{tag}
 use Rattle.walk.specs.declared.Answer.{Answer}
-use Rattle.walk.specs.declared.Answer.the-variants as Answer
 use Rattle.walk.specs.declared.Numbers.{Numbers}
 use Rattle.walk.specs.Translate.{translated, translatedMemory, numbers}
 use Rattle.cache.specs.Places.{setIndex}
@@ -31,7 +30,8 @@ freshAnswer now address access mode = translated (now .machine .settings) addres
 abbrev pub freshMemory : Stand → VirtAddr → ℕ → ℕ → List ℕ
 freshMemory now address access mode = translatedMemory (now .machine .settings) address access mode (now .memory)
 
--- "the page asked for has had no successful walk since it was last dropped; or the root is that of its latest such walk, and each entry read then holds what that walk left, save Accessed or Dirty bits set since"
+-- "the page asked for has had no successful walk since it was last dropped; or the root is that of its latest such walk,
+-- and each entry read then holds what that walk left, save Accessed or Dirty bits set since"
 abbrev pub Premise : Stand → Latest → Type 0
 Premise now none = Unit
 Premise now (walk w) = (root (now .machine .settings) ≡ w .root) × Holds (now .memory) (w .entries)
@@ -72,7 +72,7 @@ counted t pages (Calls.settings cr0 cr4 efer width) r = true
 counted t pages (Calls.page address) r = true
 counted t pages Calls.all r = true
 
--- "between, nothing dropped it, no other call asked for it, and" no page but those of a list, "of its set", was "walked with success"
+-- "between, nothing dropped it, no other call asked for it, and" of the "other pages of its set" those of a list alone "were walked with success"
 abbrev pub Between : ℕ → Walk → List ℕ → Stand → List Event → Type 0
 Between t w pages now [] = Unit
 Between t w pages now (call c ∷ es) =
@@ -105,14 +105,9 @@ Remembered now =
 abbrev pub SecondHalf : Type 0
 SecondHalf = (s : Settings) (memory : List ℕ) (series : List Event) → Remembered (run (start s memory) series)
 
--- an answer that tells of no hit: a refusal, or a success with entries read
+-- an answer that tells of no hit: any but 0 with no entry read
 abbrev pub walks : Answer → Bool
-walks (Answer.Done at size n) = not (eqb n 0)
-walks Answer.Unknown = true
-walks Answer.NotServed = true
-walks Answer.Form = true
-walks (Answer.Outside at l n) = true
-walks (Answer.Fault c l n) = true
+walks r = not (eqb (numbers r .answer) 0 && eqb (numbers r .reads) 0)
 
 -- besides, in any state whatever: a call that walks gives what a fresh walk gives, entries read too
 abbrev pub AnyWalk : Type 0

@@ -1,6 +1,6 @@
 -- The latest successful walk of a page since it was last dropped: computed from calls, answers and memory, never from the cache.
 use Prim.Native.Nat.{ℕ}
-use mathlib.Core.Bool.{Bool, true, false, not, _&&_, cond}
+use mathlib.Core.Bool.{Bool, true, false, not, _&&_, _||_, cond}
 use mathlib.Core.List.{List, [], _∷_}
 use lib.Dec.{eqb}
 use Rattle.word.specs.Bits.{bit}
@@ -10,7 +10,7 @@ use Rattle.settings.specs.Settings.{pge, root}
 use Rattle.address.specs.declared.VirtAddr.{VirtAddr}
 use Rattle.address.specs.Address.{canonical, tag}
 use Rattle.walk.specs.declared.Answer.{Answer}
-use Rattle.walk.specs.declared.Answer.the-variants as Answer
+use Rattle.walk.specs.Translate.{numbers}
 use Rattle.walk.specs.Path.{Entry, End, outside, missing, reserved, page, entries, endOf}
 use Rattle.walk.specs.Walk.{walkPath}
 use Rattle.machine.specs.Calls.{Call}
@@ -51,30 +51,15 @@ walkOf s address before after =
 
 -- a successful walk, read off its answer: 0 with entries read
 abbrev pub succeeded : Answer → Bool
-succeeded (Answer.Done at size n) = not (eqb n 0)
-succeeded Answer.Unknown = false
-succeeded Answer.NotServed = false
-succeeded Answer.Form = false
-succeeded (Answer.Outside at l n) = false
-succeeded (Answer.Fault c l n) = false
+succeeded r = eqb (numbers r .answer) 0 && not (eqb (numbers r .reads) 0)
 
 -- "a translation's 4 or 5 drops the asked page", read off its answer
 abbrev pub faulted : Answer → Bool
-faulted (Answer.Done at size n) = false
-faulted Answer.Unknown = false
-faulted Answer.NotServed = false
-faulted Answer.Form = false
-faulted (Answer.Outside at l n) = true
-faulted (Answer.Fault c l n) = true
+faulted r = eqb (numbers r .answer) 4 || eqb (numbers r .answer) 5
 
 -- a load that is accepted, read off its answer: 0
 abbrev pub accepted : Answer → Bool
-accepted (Answer.Done at size n) = true
-accepted Answer.Unknown = false
-accepted Answer.NotServed = false
-accepted Answer.Form = false
-accepted (Answer.Outside at l n) = false
-accepted (Answer.Fault c l n) = false
+accepted r = eqb (numbers r .answer) 0
 
 -- a call that asks for page t: any translation that names it
 abbrev pub asks : ℕ → Call → Bool

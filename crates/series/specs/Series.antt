@@ -8,7 +8,8 @@ use Rattle.settings.specs.declared.Settings.{Settings}
 use Rattle.machine.specs.declared.Machine.{Machine}
 use Rattle.machine.specs.Calls.{Call, Result, step, started}
 
--- what happens in a series: a call of the machine, or guest stores, which put any bytes in memory
+-- what happens in a series: a call of the machine, or guest stores, which leave any bytes in memory;
+-- "The host's uncached walk is no call of a series [..]; the bits it sets are guest stores there."
 pub data Event : Type 0 where
   call : Call → Event
   stores : List ℕ → Event

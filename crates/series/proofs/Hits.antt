@@ -1,0 +1,192 @@
+-- A hit where each entry holds what the walk left: the fresh walk gives the same, and marks nothing.
+use Prim.Native.Nat.{ℕ, _/_, _≤_}
+use mathlib.Core.Path.{_≡_, sym, ap, subst, _∙_}
+use mathlib.Core.Bool.{Bool, true, not, _||_}
+use mathlib.Core.List.{List, [], _∷_}
+use lib.ListN.{length}
+use Rattle.word.specs.Bits.{bit}
+use Rattle.word.specs.Bytes.{load}
+use Rattle.settings.specs.declared.Settings.{Settings}
+use Rattle.settings.specs.Settings.{nxe, root}
+use Rattle.address.specs.declared.PhysAddr.{PhysAddr}
+use Rattle.address.specs.declared.VirtAddr.{VirtAddr}
+use Rattle.address.specs.Address.{tag, offset, plus, frameOf, inFrame}
+use Rattle.entry.specs.Rights.{number, allow}
+use Rattle.entry.specs.Says.{says}
+use Rattle.walk.specs.declared.Access.{Access}
+use Rattle.walk.specs.declared.Mapping.{Mapping}
+use Rattle.walk.specs.declared.Walked.{Walked}
+use Rattle.walk.specs.declared.Walked.the-variants.{Mapped}
+use Rattle.walk.specs.Access.{needsWrite, needed}
+use Rattle.walk.specs.Path.{Path, Entry, path, entries, reads, rights, marks, every}
+use Rattle.walk.specs.Walk.{walked, after, walkPath, walkAnswer, walkMemory}
+use Rattle.walk.specs.Translate.{answered}
+use Rattle.cache.specs.declared.Place.{Place}
+use Rattle.cache.specs.Places.{serves, given}
+use Rattle.cache.proofs.Laws.{Serves, serves-has}
+use Rattle.machine.specs.Remember.{wanted, placeOf, hit}
+use Rattle.series.specs.History.{Walk, leftIn, walkOf}
+use Rattle.series.specs.Holds.{Holds}
+use Rattle.series.specs.Demand.{told}
+use Rattle.series.proofs.Values.{Grown, since-is-grown}
+use Rattle.series.proofs.Frames.{same-frame, base-frame}
+use Rattle.series.proofs.Paths.{All, refreshed}
+use Rattle.series.proofs.Reading.{Ending}
+use Rattle.series.proofs.Rules.{number-write, number-user, number-fetch, given-allow, given-there}
+use Rattle.series.proofs.Rewalk.{Success, succeeds, end-now, rights-now, memory-now}
+use Rattle.series.proofs.Places.{Alike, root-aligned, its, its-ending, found-memory, found-global}
+
+-- what the entries read hold only grew
+holds-grew : (m after : List ℕ) (es : List Entry) → Holds m (leftIn after es)
+    → All (λ (f : Entry). Grown (load 8 after (f .address)) (load 8 m (f .address))) es
+holds-grew m after [] holds = tt
+holds-grew m after (e ∷ es) holds = (since-is-grown (holds .0), holds-grew m after es (holds .1))
+
+-- a place that a walk left, and that walk; settings since differ in the root alone, and memory is as long
+pub record Backs (s : Settings) (size : ℕ) (w : Walk) (p : Place) : Type 0 where
+  pub under : Settings
+  pub at : VirtAddr
+  pub how : Access
+  pub memory : List ℕ
+  pub found : Mapping
+  pub alike : Alike under s
+  pub wide : 7 ≤ under .width
+  pub as-long : length memory ≡ size
+  pub walk-found : walkAnswer under at how memory ≡ Mapped found
+  pub is-place : p ≡ placeOf under at how found
+  pub is-walk : w ≡ walkOf under at memory (walkMemory under at how memory)
+
+-- the place's G is the walk's
+pub backs-global : (s : Settings) (size : ℕ) (w : Walk) (p : Place) → Backs s size w p → p .global ≡ w .global
+backs-global s size w p k =
+    ap (λ (q : Place). q .global) (k .is-place)
+    ∙ found-global (k .under) (k .at) (k .how) (k .memory) (k .found) (k .walk-found) (walkMemory (k .under) (k .at) (k .how) (k .memory))
+    ∙ ap (λ (v : Walk). v .global) (sym (k .is-walk))
+
+-- A hit where each entry holds what the walk left: the fresh walk gives the same, and marks nothing.
+module _ (s under : Settings) (alike : Alike under s) (wide : 7 ≤ under .width) (same-root : root s ≡ root under)
+    (m₀ m : List ℕ) (as-long : length m₀ ≡ length m) (at address : VirtAddr) (same-page : tag at ≡ tag address) (how a : Access)
+    (found : Mapping) (h : walkAnswer under at how m₀ ≡ Mapped found)
+    (holds : Holds m (leftIn (walkMemory under at how m₀) (entries (walkPath under at m₀)))) where
+  abbrev then : Success (needed under how) (walkPath under at m₀) found
+  then = its under at how m₀ found h
+
+  grew : All (λ (f : Entry). Grown (load 8 (marks (how .write) (walkPath under at m₀) m₀) (f .address)) (load 8 m (f .address)))
+      (entries (walkPath under at m₀))
+  grew =
+      subst (λ (x : List ℕ). All (λ (f : Entry). Grown (load 8 x (f .address)) (load 8 m (f .address))) (entries (walkPath under at m₀)))
+      (found-memory under at how m₀ found h)
+      (holds-grew m (walkMemory under at how m₀) (entries (walkPath under at m₀)) holds)
+
+  -- the path now
+  fresh-path : walkPath s address m ≡ walkPath under address m
+  fresh-path =
+      λ i. path (says (sym (alike .width-same) i) (bit (sym (alike .efer-same) i) 11)) m address 4 (same-root i)
+
+  -- what the walk now finds
+  abbrev finds : Mapping
+  finds =
+      record {
+        base = record { 0 = then .base };
+        last = load 8 m (then .last .address);
+        rights = rights (walkPath under address m);
+        size = then .last .level;
+        reads = reads (walkPath under address m);
+      }
+
+  now-rights : rights (walkPath under address m) ≡ rights (walkPath under at m₀)
+  now-rights =
+      rights-now (under .width) (nxe under) wide (root under) (root-aligned under) m₀ m as-long at address same-page (how .write)
+      (then .last) (then .base) (then .at-end) grew
+
+  now-finds : allow (needed s a) (rights (walkPath under at m₀)) ≡ true → walkAnswer s address a m ≡ Mapped finds
+  now-finds allowed =
+      ap (walked (needed s a)) fresh-path
+      ∙ succeeds (needed s a) (walkPath under address m) (refreshed m (then .last)) (then .base)
+      (end-now (under .width) (nxe under) wide (root under) (root-aligned under) m₀ m as-long at address same-page (how .write)
+      (then .last) (then .base) (then .at-end) grew)
+      (ap (allow (needed s a)) now-rights ∙ allowed)
+
+  now-memory : (allow (needed s a) (rights (walkPath under at m₀)) ≡ true) → (a .write ≡ true → (bit (then .last .value) 6 || how .write) ≡ true)
+      → walkMemory s address a m ≡ m
+  now-memory allowed dirty =
+      found-memory s address a m finds (now-finds allowed)
+      ∙ ap (λ (p : Path). marks (a .write) p m) fresh-path
+      ∙ memory-now (under .width) (nxe under) wide (root under) (root-aligned under) m₀ m as-long at address same-page (how .write)
+      (then .last) (then .base) (then .at-end) grew (a .write) dirty
+
+  -- the answer of a hit is the fresh walk's
+  now-told : allow (needed s a) (rights (walkPath under at m₀)) ≡ true
+      → told (hit address (placeOf under at how found)) ≡ told (answered s address a (walkAnswer s address a m))
+  now-told allowed =
+      ap (λ (f : Mapping). told (hit address (placeOf under at how f))) (then .is-found)
+      ∙ ap (λ (x : PhysAddr). record { answer = 0; value = x .0; detail = then .last .level; reads = 0 }) one-frame
+      ∙ ap (λ (w : Walked). told (answered s address a w)) (sym (now-finds allowed))
+    where
+      ending : Ending (then .last) (then .base)
+      ending = its-ending under at how m₀ found h
+
+      one-frame : inFrame (frameOf (plus (record { 0 = then .base }) (offset at (then .last .level)))) (address .0)
+          ≡ plus (record { 0 = then .base }) (offset address (then .last .level))
+      one-frame =
+          rw (base-frame (then .last .value) (then .last .level) (then .base) (ending .level-from) (ending .level-to) (ending .base-is))
+          (same-frame at address (then .base / 4096) (then .last .level) (ending .level-from) same-page)
+
+  -- a place that serves has the rights and, for a write, the D that the access needs
+  module _ (serving : serves (wanted s address a) (placeOf under at how found) ≡ true) where
+    -- the rights of all the entries then, one by one
+    abbrev then-write : Bool
+    then-write = every (λ (v : ℕ). bit v 1) (entries (walkPath under at m₀))
+
+    abbrev then-user : Bool
+    then-user = every (λ (v : ℕ). bit v 2) (entries (walkPath under at m₀))
+
+    abbrev then-fetch : Bool
+    then-fetch = every (λ (v : ℕ). not (bit v 63)) (entries (walkPath under at m₀))
+
+    has : Serves (wanted s address a) (placeOf under at how found)
+    has = serves-has (wanted s address a) (placeOf under at how found) serving
+
+    rights-then : found .rights ≡ number then-write then-user then-fetch
+    rights-then = ap (λ (f : Mapping). f .rights) (then .is-found)
+
+    enough : allow (needed s a) (rights (walkPath under at m₀)) ≡ true
+    enough =
+        given-allow (needsWrite s a) (a .user) (a .fetch) (nxe s) then-write then-user then-fetch
+        (subst (λ (x : Bool). given (needsWrite s a) x ≡ true) (ap (λ (n : ℕ). bit n 0) rights-then ∙ number-write then-write then-user then-fetch) (has .has-write))
+        (subst (λ (x : Bool). given (a .user) x ≡ true) (ap (λ (n : ℕ). bit n 1) rights-then ∙ number-user then-write then-user then-fetch) (has .has-user))
+        (subst (λ (x : Bool). given (a .fetch) x ≡ true) (ap (λ (n : ℕ). bit n 2) rights-then ∙ number-fetch then-write then-user then-fetch) (has .has-fetch))
+
+    pub hit-told : told (hit address (placeOf under at how found)) ≡ told (answered s address a (walkAnswer s address a m))
+    hit-told = now-told enough
+
+    pub hit-memory : walkMemory s address a m ≡ m
+    hit-memory =
+        now-memory enough
+        (λ h. subst (λ (v : ℕ). (bit v 6 || how .write) ≡ true) (ap (λ (f : Mapping). f .last) (then .is-found))
+        (given-there (a .write) (bit (found .last) 6 || how .write) (has .has-dirty) h))
+
+-- where the root is the walk's and each entry holds what it left, a hit on its place is what a fresh walk gives
+pub hit-fresh : (s : Settings) (size : ℕ) (w : Walk) (p : Place) → Backs s size w p → (address : VirtAddr) (a : Access) (m : List ℕ)
+    → length m ≡ size → root s ≡ w .root → Holds m (w .entries) → serves (wanted s address a) p ≡ true
+    → (told (hit address p) ≡ told (answered s address a (walkAnswer s address a m))) × (m ≡ walkMemory s address a m)
+hit-fresh s size w p k address a m long same-root holds serving = (
+  ap (λ (q : Place). told (hit address q)) (k .is-place)
+      ∙ hit-told s (k .under) (k .alike) (k .wide) root-then (k .memory) m as-long-now (k .at) address same-page (k .how) a (k .found) (k .walk-found) holds-then serving-then,
+  sym (hit-memory s (k .under) (k .alike) (k .wide) root-then (k .memory) m as-long-now (k .at) address same-page (k .how) a (k .found) (k .walk-found) holds-then serving-then),
+)
+  where
+    serving-then : serves (wanted s address a) (placeOf (k .under) (k .at) (k .how) (k .found)) ≡ true
+    serving-then = ap (serves (wanted s address a)) (sym (k .is-place)) ∙ serving
+
+    same-page : tag (k .at) ≡ tag address
+    same-page = serves-has (wanted s address a) (placeOf (k .under) (k .at) (k .how) (k .found)) serving-then .same-tag
+
+    root-then : root s ≡ root (k .under)
+    root-then = same-root ∙ ap (λ (v : Walk). v .root) (k .is-walk)
+
+    as-long-now : length (k .memory) ≡ length m
+    as-long-now = k .as-long ∙ sym long
+
+    holds-then : Holds m (leftIn (walkMemory (k .under) (k .at) (k .how) (k .memory)) (entries (walkPath (k .under) (k .at) (k .memory))))
+    holds-then = subst (λ (v : Walk). Holds m (v .entries)) (k .is-walk) holds

@@ -1,0 +1,241 @@
+-- The place of a page stays in its set while calls spare the page and at most three other pages of the set come in front of it.
+use Prim.Native.Nat.{ℕ, _+_, _≤_}
+use native.Mathlib.Decide.{ℕ-discrete}
+use native.Mathlib.Omega.{arith}
+use mathlib.Core.Path.{_≡_, refl, sym, ap, ap₂, subst, _∙_}
+use mathlib.Core.Bool.{Bool, true, false, not, _&&_, _||_, cond, false≢true}
+use mathlib.Core.List.{List, [], _∷_, _++_}
+use borrow.Author.Tests.{eqb-false, eq-eqb, ne-eqb, not-false}
+use lib.Dec.{eqb}
+use lib.ListN.{length, take}
+use Rattle.settings.specs.declared.Settings.{Settings}
+use Rattle.settings.specs.Settings.{served}
+use Rattle.address.specs.declared.VirtAddr.{VirtAddr}
+use Rattle.address.specs.Address.{tag, canonical}
+use Rattle.walk.specs.declared.Answer.{Answer}
+use Rattle.walk.specs.declared.Answer.the-variants as Answer
+use Rattle.walk.proofs.Laws.{by-cases}
+use Rattle.cache.specs.declared.Cache.{Cache}
+use Rattle.cache.specs.declared.Found.the-variants as Found
+use Rattle.cache.specs.declared.Place.{Place}
+use Rattle.cache.specs.declared.Wanted.{Wanted}
+use Rattle.cache.specs.Places.{setIndex, filledIn, otherTag, spares, stays, serves}
+use Rattle.cache.specs.Sets.{keep, firstServing}
+use Rattle.cache.specs.Whole.{held, emptyCache, findCache, fillCache, loadRoot}
+use Rattle.cache.specs.Whole as Whole
+use Rattle.cache.proofs.Laws.{Sixteen, fill-sixteen, drop-sixteen, root-sixteen, held-fill, held-fill-other, held-drop, held-root, drop-leaves, fill-leaves, root-takes, find-cache, other-serves-not}
+use Rattle.cache.proofs.Lists.{Each, each-keep, each-kept, each-weaker, passed-by}
+use Rattle.machine.specs.declared.Machine.{Machine}
+use Rattle.machine.specs.Remember.{placeOf}
+use Rattle.machine.specs.Calls.{Call, Result, step, withCache, withRoot, withSettings, done}
+use Rattle.machine.specs.Calls as Calls
+use Rattle.series.specs.Series.{Event, call, stores, Stand, leads, run}
+use Rattle.series.specs.History.{Walk, asks, drops}
+use Rattle.series.specs.Demand.{others, among, counted, Between}
+use Rattle.series.proofs.Places.{Alike, found-reads, found-filled}
+use Rattle.series.proofs.Asked.{due}
+use Rattle.series.proofs.Translations.{Goes, quiet, hits, fills, goes}
+use Rattle.series.proofs.Translations as Ways
+use Rattle.series.proofs.Sound.{contradiction}
+use Rattle.series.proofs.Sets.{Few, few-length, few-keep, keep-around, take-around}
+
+-- a place in its set behind places of few other pages
+pub record Stays (t : ℕ) (pages : List ℕ) (p : Place) (c : Cache) : Type 0 where
+  pub sixteen : Sixteen c
+  pub front : List Place
+  pub rest : List Place
+  pub is-held : held (setIndex t) c ≡ front ++ (p ∷ rest)
+  pub few : Few pages front
+  pub apart : Each (otherTag t) front
+
+-- what a fill spares is of another page
+spared-others : (q : Place) (ps : List Place) → Each (otherTag (q .tag)) (keep (spares q) ps)
+unfolding spares
+spared-others q ps = each-keep (otherTag (q .tag)) ps
+
+module _ (t : ℕ) (pages : List ℕ) (at-most : length pages ≤ others) (p : Place) (own : p .tag ≡ t) (w : Walk) (same-global : p .global ≡ w .global) where
+  -- a filter of the set that keeps the place
+  filtered : (test : Place → Bool) (c c′ : Cache) → test p ≡ true → Sixteen c′ → held (setIndex t) c′ ≡ keep test (held (setIndex t) c)
+      → Stays t pages p c → Stays t pages p c′
+  filtered test c c′ kept sixteen is k =
+      record {
+        sixteen = sixteen;
+        front = keep test (k .front);
+        rest = keep test (k .rest);
+        is-held = is ∙ ap (keep test) (k .is-held) ∙ keep-around test (k .front) p (k .rest) kept;
+        few = few-keep pages test (k .front) (k .few);
+        apart = each-kept (otherTag t) test (k .front) (k .apart);
+      }
+
+  -- a drop of another page
+  drop-stays : (u : ℕ) (c : Cache) → (t ≡ u → ⊥) → Stays t pages p c → Stays t pages p (Whole.dropPage u c)
+  drop-stays u c other k =
+      filtered (otherTag u) c (Whole.dropPage u c) (drop-leaves u p (λ e. other (sym own ∙ e))) (drop-sixteen u c (k .sixteen))
+      (held-drop u c (setIndex t) (k .sixteen)) k
+
+  -- a root load, where the page is G
+  root-stays : (c : Cache) → p .global ≡ true → Stays t pages p c → Stays t pages p (loadRoot c)
+  root-stays c is-global k =
+      filtered stays c (loadRoot c) (root-takes p ∙ is-global) (root-sixteen c) (held-root c (setIndex t) (k .sixteen)) k
+
+  -- a fill of another page, which is one of the list where it is of the same set
+  fill-stays : (q : Place) (c : Cache) → (t ≡ q .tag → ⊥) → filledIn (setIndex (q .tag)) q ≡ true
+      → (setIndex (q .tag) ≡ setIndex t → among (q .tag) pages ≡ true) → Stays t pages p c → Stays t pages p (fillCache q c)
+  fill-stays q c other is-filled counts k = go (ℕ-discrete (setIndex t) (setIndex (q .tag)))
+    where
+      go : Dec (setIndex t ≡ setIndex (q .tag)) → Stays t pages p (fillCache q c)
+      go (yes same) =
+          let few′ : Few pages (q ∷ keep (spares q) (k .front)) =
+          (counts (sym same), spared-others q (k .front), few-keep pages (spares q) (k .front) (k .few)) in
+          let fits = take-around 3 (q ∷ keep (spares q) (k .front)) p (keep (spares q) (k .rest))
+          (omega (arith, few-length (q ∷ keep (spares q) (k .front)) pages few′)) in
+          record {
+            sixteen = fill-sixteen q c (k .sixteen);
+            front = q ∷ keep (spares q) (k .front);
+            rest = fits .0;
+            is-held =
+                ap (λ (i : ℕ). held i (fillCache q c)) same ∙ held-fill q c (k .sixteen) is-filled
+                ∙ ap (λ (l : List Place). take 4 (q ∷ keep (spares q) l)) (ap (λ (i : ℕ). held i c) (sym same) ∙ k .is-held)
+                ∙ ap (λ (l : List Place). take 4 (q ∷ l)) (keep-around (spares q) (k .front) p (k .rest) (fill-leaves q p (λ e. other (sym own ∙ e))))
+                ∙ fits .1;
+            few = few′;
+            apart = (drop-leaves t q (λ e. other (sym e)), each-kept (otherTag t) (spares q) (k .front) (k .apart));
+          }
+      go (no elsewhere) =
+          record {
+            sixteen = fill-sixteen q c (k .sixteen);
+            front = k .front;
+            rest = k .rest;
+            is-held = held-fill-other q c (setIndex t) elsewhere ∙ k .is-held;
+            few = k .few;
+            apart = k .apart;
+          }
+
+  -- the machine remembers the page: its place stays, and settings are served and differ in the root alone
+  module _ (s₀ : Settings) where
+    pub record Remembers (m : Machine) : Type 0 where
+      pub stays-in : Stays t pages p (m .cache)
+      pub alike : Alike s₀ (m .settings)
+      pub serving : served (m .settings) ≡ true
+
+    with-cache : (m : Machine) (c : Cache) → Remembers m → Stays t pages p c → Remembers (withCache m c)
+    with-cache m c k still = record { stays-in = still; alike = k .alike; serving = k .serving }
+
+    module _ (m : Machine) (memory : List ℕ) (k : Remembers m) where
+      -- a call that spares the page
+      abbrev Spared : Call → Result → Type 0
+      Spared c r = drops t w c (r .answer) ≡ false → asks t c ≡ false → counted t pages c (r .answer) ≡ true → Remembers (r .machine)
+
+      -- another page that a walk with success put in the same set is one of the list
+      counts : (u : ℕ) (success : Bool) → success ≡ true → (not (success && eqb (setIndex u) (setIndex t)) || among u pages) ≡ true
+          → setIndex u ≡ setIndex t → among u pages ≡ true
+      counts u success yes-it h same =
+          sym (ap₂ (λ (a b : Bool). not (a && b) || among u pages) yes-it (eq-eqb (setIndex u) (setIndex t) same)) ∙ h
+
+      translation : (address : VirtAddr) (access mode : ℕ) → Goes m memory address access mode
+          → Spared (Calls.translate address access mode) (step m memory (Calls.translate address access mode))
+      translation address access mode (quiet r no-success no-fault is fresh-is left-is) =
+          subst (Spared (Calls.translate address access mode)) (sym is) (λ no-drop not-asked counting. k)
+      translation address access mode (hits a q found is fresh-is left-is) =
+          subst (Spared (Calls.translate address access mode)) (sym is) (λ no-drop not-asked counting. k)
+      translation address access mode (fills a f on found is fresh-is left-is) =
+          subst (Spared (Calls.translate address access mode)) (sym is)
+          (λ no-drop not-asked counting.
+          with-cache m (fillCache (placeOf (m .settings) address a f) (m .cache)) k
+          (fill-stays (placeOf (m .settings) address a f) (m .cache) (λ e. eqb-false (tag address) t not-asked (sym e))
+          (found-filled (m .settings) address a memory f found (due (m .settings) address access mode a on .is-canonical))
+          (counts (tag address) (not (eqb (f .reads) 0))
+          (ap not (ne-eqb (f .reads) 0 (λ e. omega (arith, found-reads (m .settings) address a memory f found)))) counting)
+          (k .stays-in)))
+      translation address access mode (Ways.drops r no-success fault is fresh-is left-is) =
+          subst (Spared (Calls.translate address access mode)) (sym is)
+          (λ no-drop not-asked counting.
+          with-cache m (Whole.dropPage (tag address) (m .cache)) k
+          (drop-stays (tag address) (m .cache) (λ e. eqb-false (tag address) t not-asked (sym e)) (k .stays-in)))
+
+      after-store : (at value : ℕ) → Spared (Calls.store at value) (step m memory (Calls.store at value))
+      unfolding step Calls.storedResult
+      after-store at value = λ no-drop not-asked counting. k
+
+      after-root : (value : ℕ) → Spared (Calls.root value) (step m memory (Calls.root value))
+      unfolding step Calls.rootResult
+      after-root value = go (served (withRoot (m .settings) value)) refl
+        where
+          go : (b : Bool) → served (withRoot (m .settings) value) ≡ b
+              → Spared (Calls.root value) (record {
+                answer = cond b done Answer.NotServed;
+                machine = cond b (record { settings = withRoot (m .settings) value; cache = loadRoot (m .cache) }) m;
+                memory = memory;
+              })
+          go true ok = λ no-drop not-asked counting.
+              record {
+                stays-in = root-stays (m .cache) (same-global ∙ not-false (w .global) no-drop) (k .stays-in);
+                alike = record {
+                  cr0-same = k .alike .cr0-same;
+                  cr4-same = k .alike .cr4-same;
+                  efer-same = k .alike .efer-same;
+                  width-same = k .alike .width-same;
+                };
+                serving = ok;
+              }
+          go false ok = λ no-drop not-asked counting. k
+
+      after-settings : (cr0 cr4 efer width : ℕ) → Spared (Calls.settings cr0 cr4 efer width) (step m memory (Calls.settings cr0 cr4 efer width))
+      unfolding step Calls.settingsResult
+      after-settings cr0 cr4 efer width = go (served (withSettings (m .settings) cr0 cr4 efer width))
+        where
+          go : (b : Bool) → Spared (Calls.settings cr0 cr4 efer width) (record {
+            answer = cond b done Answer.NotServed;
+            machine = cond b (record { settings = withSettings (m .settings) cr0 cr4 efer width; cache = emptyCache }) m;
+            memory = memory;
+          })
+          go true = λ no-drop not-asked counting. absurd (false≢true (sym no-drop))
+          go false = λ no-drop not-asked counting. k
+
+      after-page : (address : VirtAddr) → Spared (Calls.page address) (step m memory (Calls.page address))
+      unfolding step Calls.pageResult
+      after-page address = go (canonical address) refl
+        where
+          go : (b : Bool) → canonical address ≡ b
+              → Spared (Calls.page address) (record { answer = done; machine = cond b (withCache m (Whole.dropPage (tag address) (m .cache))) m; memory = memory })
+          go true form no-drop not-asked counting =
+              with-cache m (Whole.dropPage (tag address) (m .cache)) k
+              (drop-stays (tag address) (m .cache) (λ e. eqb-false (tag address) t other (sym e)) (k .stays-in))
+            where
+              dropped : eqb (tag address) t ≡ true → drops t w (Calls.page address) done ≡ true
+              dropped same = rw (form, same)
+
+              other : eqb (tag address) t ≡ false
+              other = by-cases (eqb (tag address) t) (λ same. contradiction (dropped same) no-drop) (λ apart. apart)
+          go false form no-drop not-asked counting = k
+
+      after-all : Spared Calls.all (step m memory Calls.all)
+      unfolding step Calls.allResult
+      after-all = λ no-drop not-asked counting. absurd (false≢true (sym no-drop))
+
+      after-call : (c : Call) → Spared c (step m memory c)
+      after-call (Calls.translate address access mode) = translation address access mode (goes m memory address access mode)
+      after-call (Calls.store at value) = after-store at value
+      after-call (Calls.root value) = after-root value
+      after-call (Calls.settings cr0 cr4 efer width) = after-settings cr0 cr4 efer width
+      after-call (Calls.page address) = after-page address
+      after-call Calls.all = after-all
+
+    -- a series that spares the page
+    pub remembered : (now : Stand) (es : List Event) → Remembers (now .machine) → Between t w pages now es → Remembers (run now es .machine)
+    unfolding run
+    remembered now [] k spared = k
+    remembered now (call c ∷ es) k spared =
+        remembered (leads now (call c)) es (after-call (now .machine) (now .memory) k c (spared .0) (spared .1) (spared .2)) (spared .3)
+    remembered now (stores other ∷ es) k spared = remembered (leads now (stores other)) es k spared
+
+    -- where the place serves, it is found
+    pub found-again : (m : Machine) (x : Wanted) → x .tag ≡ t → serves x p ≡ true → Remembers m → findCache x (m .cache) ≡ Found.At p
+    found-again m x same serving k =
+        find-cache x (m .cache)
+        ∙ ap (λ (u : ℕ). firstServing x (held (setIndex u) (m .cache))) same
+        ∙ ap (firstServing x) (k .stays-in .is-held)
+        ∙ passed-by x (k .stays-in .front) (p ∷ k .stays-in .rest)
+        (each-weaker (otherTag t) (λ q. not (serves x q)) (λ q other. other-serves-not x q (subst (λ (u : ℕ). otherTag u q ≡ true) (sym same) other))
+        (k .stays-in .front) (k .stays-in .apart))
+        ∙ rw serving
