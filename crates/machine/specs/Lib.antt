@@ -1,4 +1,8 @@
 pub mod Calls
 pub mod Demand1
+pub mod Demand3
+pub mod History
+pub mod Holds
 pub mod Remember
+pub mod Series
 pub mod Sets

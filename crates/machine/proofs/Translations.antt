@@ -21,11 +21,11 @@ use Rattle.cache.specs.declared.Found.the-variants as Found
 use Rattle.cache.specs.declared.Place.{Place}
 use Rattle.cache.specs.Whole.{findCache, fillCache}
 use Rattle.cache.specs.Whole as Whole
 use Rattle.machine.specs.declared.Machine.{Machine}
 use Rattle.machine.specs.Remember.{wanted, placeOf, hit}
 use Rattle.machine.specs.Calls.{Result, step, withCache, only}
 use Rattle.machine.specs.Calls as Calls
-use Rattle.series.specs.History.{succeeded, faulted}
+use Rattle.machine.specs.History.{succeeded, faulted}
 
 module _ (m : Machine) (memory : List ℕ) (address : VirtAddr) (access mode : ℕ) where
   abbrev s : Settings

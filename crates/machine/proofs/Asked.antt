@@ -16,8 +16,8 @@ use Rattle.walk.specs.declared.Asked.the-variants as Asked
 use Rattle.walk.specs.Access.{known, accessOf}
 use Rattle.walk.specs.Translate.{asked, askedOff}
 use Rattle.cache.proofs.Lists.{and-true}
-use Rattle.series.proofs.Frames.{canonical-same}
-use Rattle.series.proofs.Places.{Alike}
+use Rattle.machine.proofs.Frames.{canonical-same}
+use Rattle.machine.proofs.Places.{Alike}
 
 -- a walk is due
 pub record Due (s : Settings) (address : VirtAddr) (access mode : ℕ) (a : Access) : Type 0 where

@@ -17,13 +17,13 @@ use Rattle.walk.specs.Path.{Path, page, path, entries, endOf, reads, rights, ma
 use Rattle.walk.specs.Walk.{after, walkPath, walkAnswer, walkMemory}
 use Rattle.cache.specs.Places.{setIndex, filledIn, serves, given}
 use Rattle.cache.proofs.Laws.{has-filled, has-serves}
 use Rattle.machine.specs.Remember.{wanted, placeOf}
-use Rattle.series.specs.History.{isGlobal, walkOf}
-use Rattle.series.proofs.Frames.{frame-small, tag-small}
-use Rattle.series.proofs.Paths.{All}
-use Rattle.series.proofs.Reading.{Read, Ending, AtPage, IsPage, read-path}
-use Rattle.series.proofs.Rules.{number-write, number-user, number-fetch, allow-given, none-disabled, dirty-given}
-use Rattle.series.proofs.Rewalk.{Success, success, reads-some}
+use Rattle.machine.specs.History.{isGlobal, walkOf}
+use Rattle.machine.proofs.Frames.{frame-small, tag-small}
+use Rattle.machine.proofs.Paths.{All}
+use Rattle.machine.proofs.Reading.{Read, Ending, AtPage, IsPage, read-path}
+use Rattle.machine.proofs.Rules.{number-write, number-user, number-fetch, allow-given, none-disabled, dirty-given}
+use Rattle.machine.proofs.Rewalk.{Success, success, reads-some}
 
 -- settings that differ in the root alone
 pub record Alike (s s′ : Settings) : Type 0 where

@@ -20,20 +20,20 @@ use Rattle.cache.specs.Places.{setIndex, filledIn, spares}
 use Rattle.cache.specs.Sets.{keep}
 use Rattle.cache.specs.Whole.{held, findCache, fillCache}
 use Rattle.cache.proofs.Laws.{Sixteen, fill-sixteen, held-fill}
 use Rattle.machine.specs.declared.Machine.{Machine}
 use Rattle.machine.specs.Remember.{wanted, placeOf, hit}
 use Rattle.machine.specs.Calls.{Result, step, withCache}
 use Rattle.machine.specs.Calls as Calls
-use Rattle.series.specs.Series.{Event, Stand, gives, run, start}
-use Rattle.series.specs.History.{Walk, none, walkOf, succeeded, drops}
-use Rattle.series.specs.Demand.{others, Between, again, SecondHalf}
-use Rattle.series.proofs.Places.{found-filled, found-serves, found-global}
-use Rattle.series.proofs.Asked.{Due, due, due-again}
-use Rattle.series.proofs.Translations.{Goes, quiet, hits, fills, filledResult, goes}
-use Rattle.series.proofs.Translations as Ways
-use Rattle.series.proofs.Sound.{contradiction}
-use Rattle.series.proofs.First.{after-series, start-sound}
-use Rattle.series.proofs.Staying.{Remembers, remembered, found-again}
+use Rattle.machine.specs.Series.{Event, Stand, gives, run, start}
+use Rattle.machine.specs.History.{Walk, none, walkOf, succeeded, drops}
+use Rattle.machine.specs.Demand3.{others, Between, again, SecondHalf}
+use Rattle.machine.proofs.Places.{found-filled, found-serves, found-global}
+use Rattle.machine.proofs.Asked.{Due, due, due-again}
+use Rattle.machine.proofs.Translations.{Goes, quiet, hits, fills, filledResult, goes}
+use Rattle.machine.proofs.Translations as Ways
+use Rattle.machine.proofs.Sound.{contradiction}
+use Rattle.machine.proofs.First.{after-series, start-sound}
+use Rattle.machine.proofs.Staying.{Remembers, remembered, found-again}
 
 -- a translation that finds a place
 hit-result : (m : Machine) (memory : List ℕ) (address : VirtAddr) (access mode : ℕ) (a : Access) (p : Place)

@@ -17,7 +17,7 @@ use Rattle.entry.specs.declared.Says.{Says}
 use Rattle.entry.specs.declared.Says.the-variants as Says
 use Rattle.entry.specs.Says.{says, told, isPage, reserved as isReserved, aboveWidth, executeDisabled, sizeTooLarge, insidePage, largest, tableBase, pageBase}
 use Rattle.walk.specs.Path.{Path, End, Entry, ends, outside, missing, reserved, page, onward, level, path, entries, endOf}
-use Rattle.series.proofs.Paths.{All}
+use Rattle.machine.proofs.Paths.{All}
 
 -- an entry that a walk of memory read and did not refuse
 pub record Read (nxe : Bool) (m : List ℕ) (e : Entry) : Type 0 where

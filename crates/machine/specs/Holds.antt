@@ -5,7 +5,7 @@ use mathlib.Core.Bool.{Bool, cond}
 use mathlib.Core.List.{List, [], _∷_}
 use Rattle.word.specs.Bits.{withBit}
 use Rattle.word.specs.Bytes.{load}
-use Rattle.series.specs.History.{Left}
+use Rattle.machine.specs.History.{Left}
 
 -- "A 5": a value with Accessed set since, or as it was
 abbrev pub accessedSince : Bool → ℕ → ℕ

@@ -25,19 +25,19 @@ use Rattle.cache.specs.Whole.{held, emptyCache, findCache, fillCache, loadRoot}
 use Rattle.cache.specs.Whole as Whole
 use Rattle.cache.proofs.Laws.{Sixteen, fill-sixteen, drop-sixteen, root-sixteen, held-fill, held-fill-other, held-drop, held-root, drop-leaves, fill-leaves, root-takes, find-cache, other-serves-not}
 use Rattle.cache.proofs.Lists.{Each, each-keep, each-kept, each-weaker, passed-by}
 use Rattle.machine.specs.declared.Machine.{Machine}
 use Rattle.machine.specs.Remember.{placeOf}
 use Rattle.machine.specs.Calls.{Call, Result, step, withCache, withRoot, withSettings, done}
 use Rattle.machine.specs.Calls as Calls
-use Rattle.series.specs.Series.{Event, call, stores, Stand, leads, run}
-use Rattle.series.specs.History.{Walk, asks, drops}
-use Rattle.series.specs.Demand.{others, among, counted, Between}
-use Rattle.series.proofs.Places.{Alike, found-reads, found-filled}
-use Rattle.series.proofs.Asked.{due}
-use Rattle.series.proofs.Translations.{Goes, quiet, hits, fills, goes}
-use Rattle.series.proofs.Translations as Ways
-use Rattle.series.proofs.Sound.{contradiction}
-use Rattle.series.proofs.Sets.{Few, few-length, few-keep, keep-around, take-around}
+use Rattle.machine.specs.Series.{Event, call, stores, Stand, leads, run}
+use Rattle.machine.specs.History.{Walk, asks, drops}
+use Rattle.machine.specs.Demand3.{others, among, counted, Between}
+use Rattle.machine.proofs.Places.{Alike, found-reads, found-filled}
+use Rattle.machine.proofs.Asked.{due}
+use Rattle.machine.proofs.Translations.{Goes, quiet, hits, fills, goes}
+use Rattle.machine.proofs.Translations as Ways
+use Rattle.machine.proofs.Sound.{contradiction}
+use Rattle.machine.proofs.Sets.{Few, few-length, few-keep, keep-around, take-around}
 
 -- a place in its set behind places of few other pages
 pub record Stays (t : ℕ) (pages : List ℕ) (p : Place) (c : Cache) : Type 0 where

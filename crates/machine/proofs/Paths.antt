@@ -17,7 +17,7 @@ use Rattle.entry.specs.declared.Says.the-variants as Says
 use Rattle.entry.specs.Says.{says}
 use Rattle.entry.specs.Rights.{number}
 use Rattle.walk.specs.Path.{Path, End, Entry, ends, next, outside, missing, reserved, page, onward, level, path, entries, endOf, reads, rights, every}
-use Rattle.series.proofs.Values.{Grown, says-same, bit-1, bit-2, bit-high}
+use Rattle.machine.proofs.Values.{Grown, says-same, bit-1, bit-2, bit-high}
 
 -- every entry of a list has a property
 abbrev pub All : (Entry → Type 0) → List Entry → Type 0

@@ -24,17 +24,17 @@ use Rattle.walk.specs.Translate.{answered}
 use Rattle.cache.specs.declared.Place.{Place}
 use Rattle.cache.specs.Places.{serves, given}
 use Rattle.cache.proofs.Laws.{Serves, serves-has}
 use Rattle.machine.specs.Remember.{wanted, placeOf, hit}
-use Rattle.series.specs.History.{Walk, leftIn, walkOf}
-use Rattle.series.specs.Holds.{Holds}
-use Rattle.series.specs.Demand.{told}
-use Rattle.series.proofs.Values.{Grown, since-is-grown}
-use Rattle.series.proofs.Frames.{same-frame, base-frame}
-use Rattle.series.proofs.Paths.{All, refreshed}
-use Rattle.series.proofs.Reading.{Ending}
-use Rattle.series.proofs.Rules.{number-write, number-user, number-fetch, given-allow, given-there}
-use Rattle.series.proofs.Rewalk.{Success, succeeds, end-now, rights-now, memory-now}
-use Rattle.series.proofs.Places.{Alike, root-aligned, its, its-ending, found-memory, found-global}
+use Rattle.machine.specs.History.{Walk, leftIn, walkOf}
+use Rattle.machine.specs.Holds.{Holds}
+use Rattle.machine.specs.Demand3.{told}
+use Rattle.machine.proofs.Values.{Grown, since-is-grown}
+use Rattle.machine.proofs.Frames.{same-frame, base-frame}
+use Rattle.machine.proofs.Paths.{All, refreshed}
+use Rattle.machine.proofs.Reading.{Ending}
+use Rattle.machine.proofs.Rules.{number-write, number-user, number-fetch, given-allow, given-there}
+use Rattle.machine.proofs.Rewalk.{Success, succeeds, end-now, rights-now, memory-now}
+use Rattle.machine.proofs.Places.{Alike, root-aligned, its, its-ending, found-memory, found-global}
 
 -- what the entries read hold only grew
 holds-grew : (m after : List ℕ) (es : List Entry) → Holds m (leftIn after es)

@@ -13,9 +13,9 @@ use Rattle.walk.specs.declared.Answer.{Answer}
 use Rattle.walk.specs.Translate.{numbers}
 use Rattle.walk.specs.Path.{Entry, End, outside, missing, reserved, page, entries, endOf}
 use Rattle.walk.specs.Walk.{walkPath}
 use Rattle.machine.specs.Calls.{Call}
 use Rattle.machine.specs.Calls as Calls
-use Rattle.series.specs.Series.{Event, call, stores, Stand, gives, leads}
+use Rattle.machine.specs.Series.{Event, call, stores, Stand, gives, leads}
 
 -- an entry that a walk read, and what the walk left in it
 pub record Left : Type 0 where

@@ -18,13 +18,13 @@ use Rattle.cache.specs.Sets.{keep}
 use Rattle.cache.specs.Whole.{held, emptyCache, fillCache, loadRoot}
 use Rattle.cache.specs.Whole as Whole
 use Rattle.cache.proofs.Laws.{Sixteen, held-empty, held-fill, held-fill-other, held-drop, held-root, drop-takes, fill-takes, root-takes}
 use Rattle.machine.specs.Calls.{Call, withRoot}
 use Rattle.machine.specs.Calls as Calls
-use Rattle.series.specs.Series.{Stand}
-use Rattle.series.specs.History.{Walk, Latest, none, walk, walkOf, succeeded, faulted, accepted, drops, kept, noted}
-use Rattle.series.proofs.Places.{Alike}
-use Rattle.series.proofs.Hits.{Backs, backs-global}
-use Rattle.series.proofs.Lists.{Has, has-keep, has-take, keep-has}
+use Rattle.machine.specs.Series.{Stand}
+use Rattle.machine.specs.History.{Walk, Latest, none, walk, walkOf, succeeded, faulted, accepted, drops, kept, noted}
+use Rattle.machine.proofs.Places.{Alike}
+use Rattle.machine.proofs.Hits.{Backs, backs-global}
+use Rattle.machine.proofs.Lists.{Has, has-keep, has-take, keep-has}
 
 -- a place is backed by the latest walk of its page
 abbrev pub Backed : Settings → ℕ → Latest → Place → Type 0

@@ -27,20 +27,20 @@ use Rattle.cache.specs.Places.{setIndex, filledIn}
 use Rattle.cache.specs.Whole.{held, emptyCache, fillCache, loadRoot}
 use Rattle.cache.specs.Whole as Whole
 use Rattle.cache.proofs.Laws.{empty-sixteen, fill-sixteen, drop-sixteen, root-sixteen}
 use Rattle.machine.specs.declared.Machine.{Machine}
 use Rattle.machine.specs.Remember.{placeOf, hit}
 use Rattle.machine.specs.Calls.{Call, Result, step, withCache, withRoot, withSettings, done, started}
 use Rattle.machine.specs.Calls as Calls
-use Rattle.series.specs.Series.{Event, call, stores, Stand, replaced, leads, run, start}
-use Rattle.series.specs.History.{Latest, none, walk, walkOf, succeeded, succeeded, drops, kept, noted, notedEvent, latest}
-use Rattle.series.proofs.Marking.{marks-length}
-use Rattle.series.proofs.Places.{found-reads, found-memory, found-filled}
-use Rattle.series.proofs.Hits.{Backs}
-use Rattle.series.proofs.Asked.{Due, due, served-wide}
-use Rattle.series.proofs.Translations.{Goes, quiet, hits, fills, filledResult, goes}
-use Rattle.series.proofs.Translations as Ways
-use Rattle.series.proofs.Lists.{Has}
-use Rattle.series.proofs.Sound.{Own, Sound, kept-all, noted-quiet, noted-other, noted-walk, dropped-own, dropped-any, emptied, filled-own, filled-other, rooted}
+use Rattle.machine.specs.Series.{Event, call, stores, Stand, replaced, leads, run, start}
+use Rattle.machine.specs.History.{Latest, none, walk, walkOf, succeeded, succeeded, drops, kept, noted, notedEvent, latest}
+use Rattle.machine.proofs.Marking.{marks-length}
+use Rattle.machine.proofs.Places.{found-reads, found-memory, found-filled}
+use Rattle.machine.proofs.Hits.{Backs}
+use Rattle.machine.proofs.Asked.{Due, due, served-wide}
+use Rattle.machine.proofs.Translations.{Goes, quiet, hits, fills, filledResult, goes}
+use Rattle.machine.proofs.Translations as Ways
+use Rattle.machine.proofs.Lists.{Has}
+use Rattle.machine.proofs.Sound.{Own, Sound, kept-all, noted-quiet, noted-other, noted-walk, dropped-own, dropped-any, emptied, filled-own, filled-other, rooted}
 
 module _ (t size : ℕ) (m : Machine) (memory : List ℕ) (w : Latest) (sound : Sound t size (record { machine = m; memory = memory }) w) where
   abbrev s : Settings

@@ -13,11 +13,11 @@ use Rattle.walk.specs.declared.Answer.{Answer}
 use Rattle.walk.specs.declared.Numbers.{Numbers}
 use Rattle.walk.specs.Translate.{translated, translatedMemory, numbers}
 use Rattle.cache.specs.Places.{setIndex}
 use Rattle.machine.specs.Calls.{Call, Result}
 use Rattle.machine.specs.Calls as Calls
-use Rattle.series.specs.Series.{Event, call, stores, Stand, gives, leads, run, start}
-use Rattle.series.specs.History.{Walk, Latest, none, walk, walkOf, succeeded, asks, drops, latest}
-use Rattle.series.specs.Holds.{Holds}
+use Rattle.machine.specs.Series.{Event, call, stores, Stand, gives, leads, run, start}
+use Rattle.machine.specs.History.{Walk, Latest, none, walk, walkOf, succeeded, asks, drops, latest}
+use Rattle.machine.specs.Holds.{Holds}
 
 -- what a translation gives where a series stands
 abbrev pub ask : Stand → VirtAddr → ℕ → ℕ → Result

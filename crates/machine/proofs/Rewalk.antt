@@ -17,10 +17,10 @@ use Rattle.walk.specs.declared.Mapping.{Mapping}
 use Rattle.walk.specs.declared.Walked.the-variants.{Mapped, Refused}
 use Rattle.walk.specs.Path.{Path, End, Entry, ends, next, outside, missing, reserved, page, path, entries, endOf, reads, rights, report, marks}
 use Rattle.walk.specs.Walk.{ended, walked}
-use Rattle.series.proofs.Values.{Grown, grown-trans}
-use Rattle.series.proofs.Paths.{All, all-map, Kept, reread, rereadEnd, refreshed, path-again, end-again, reads-again, rights-again}
-use Rattle.series.proofs.Reading.{Read, IsPage, read-path}
-use Rattle.series.proofs.Marking.{Aligned, Accessed, DirtyEnd, PlacedEnd, marks-grown, marks-accessed, marks-dirty, marks-none, marks-again, accessed-stays, set-stays}
+use Rattle.machine.proofs.Values.{Grown, grown-trans}
+use Rattle.machine.proofs.Paths.{All, all-map, Kept, reread, rereadEnd, refreshed, path-again, end-again, reads-again, rights-again}
+use Rattle.machine.proofs.Reading.{Read, IsPage, read-path}
+use Rattle.machine.proofs.Marking.{Aligned, Accessed, DirtyEnd, PlacedEnd, marks-grown, marks-accessed, marks-dirty, marks-none, marks-again, accessed-stays, set-stays}
 
 -- a walk that ends in a success: its last entry, its page's base, and that its rights allow
 pub record Success (need : ℕ) (p : Path) (found : Mapping) : Type 0 where

@@ -12,7 +12,7 @@ use Rattle.entry.specs.declared.Says.the-variants.{Missing, Reserved, Table, Pa
 use Rattle.entry.specs.Says.{says, largest}
 use Rattle.entry.specs.Mark.{markByte}
 use Rattle.address.specs.Address.{pageBits}
-use Rattle.series.specs.Holds.{Since, accessedSince, dirtySince}
+use Rattle.machine.specs.Holds.{Since, accessedSince, dirtySince}
 
 -- a value that another became: A and D set or as they were, every other bit as it was
 pub record Grown (v v′ : ℕ) : Type 0 where

@@ -16,18 +16,18 @@ use Rattle.cache.specs.Places.{setIndex, serves}
 use Rattle.cache.specs.Whole.{findCache, held}
 use Rattle.cache.proofs.Laws.{find-cache, serves-has}
 use Rattle.cache.proofs.Lists.{first-serves}
 use Rattle.machine.specs.Remember.{wanted, hit}
 use Rattle.machine.specs.Calls.{Result}
 use Rattle.machine.specs.Calls as Calls
-use Rattle.series.specs.Series.{Stand, gives, run, start}
-use Rattle.series.specs.History.{Latest, none, walk, latest}
-use Rattle.series.specs.Demand.{Premise, AsFresh, told, walks, FirstHalf, AnyWalk}
-use Rattle.series.proofs.Lists.{has-member}
-use Rattle.series.proofs.Hits.{hit-fresh}
-use Rattle.series.proofs.Translations.{Goes, quiet, hits, fills, goes}
-use Rattle.series.proofs.Translations as Ways
-use Rattle.series.proofs.Sound.{Backed, Own, Sound}
-use Rattle.series.proofs.First.{after-series, start-sound}
+use Rattle.machine.specs.Series.{Stand, gives, run, start}
+use Rattle.machine.specs.History.{Latest, none, walk, latest}
+use Rattle.machine.specs.Demand3.{Premise, AsFresh, told, walks, FirstHalf, AnyWalk}
+use Rattle.machine.proofs.Lists.{has-member}
+use Rattle.machine.proofs.Hits.{hit-fresh}
+use Rattle.machine.proofs.Translations.{Goes, quiet, hits, fills, goes}
+use Rattle.machine.proofs.Translations as Ways
+use Rattle.machine.proofs.Sound.{Backed, Own, Sound}
+use Rattle.machine.proofs.First.{after-series, start-sound}
 
 module _ (now : Stand) (size : ℕ) (w : Latest) (address : VirtAddr) (access mode : ℕ) (sound : Sound (tag address) size now w) (premise : Premise now w) where
   abbrev s : Settings

@@ -10,7 +10,7 @@ use lib.Seq.{getD-set-same, getD-set-other, set-getD, set-out}
 use Rattle.word.specs.Bits.{withBit}
 use Rattle.word.specs.Bytes.{load}
 use Rattle.entry.specs.Mark.{mark, markByte}
-use Rattle.series.proofs.Values.{Grown, grown-refl, mark-grown, mark-accessed, mark-dirty, set-5, set-6}
+use Rattle.machine.proofs.Values.{Grown, grown-refl, mark-grown, mark-accessed, mark-dirty, set-5, set-6}
 
 -- a byte that a load does not read
 load-other : (width : ℕ) (m : List ℕ) (i x a : ℕ) → ((j : ℕ) → a ≤ j → j < a + width → j ≡ i → ⊥) → load width (set m i x) a ≡ load width m a

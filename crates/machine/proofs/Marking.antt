@@ -8,10 +8,10 @@ use lib.ListN.{length}
 use Rattle.word.specs.Bytes.{load}
 use Rattle.entry.specs.Mark.{mark}
 use Rattle.walk.specs.Path.{Path, End, Entry, ends, next, outside, missing, reserved, page, entries, endOf, marks}
-use Rattle.series.proofs.Values.{Grown, grown-refl, grown-trans}
-use Rattle.series.proofs.Memory.{marked-grown, marked-accessed, marked-dirty, mark-length, mark-none}
-use Rattle.series.proofs.Paths.{All, all-map, reread}
-use Rattle.series.proofs.Reading.{IsPage}
+use Rattle.machine.proofs.Values.{Grown, grown-refl, grown-trans}
+use Rattle.machine.proofs.Memory.{marked-grown, marked-accessed, marked-dirty, mark-length, mark-none}
+use Rattle.machine.proofs.Paths.{All, all-map, reread}
+use Rattle.machine.proofs.Reading.{IsPage}
 
 -- the addresses of a path's entries are multiples of 8
 abbrev pub Aligned : Entry → Type 0

@@ -9,8 +9,8 @@ use Rattle.entry.proofs.Meeting.{allow-each}
 use Rattle.cache.proofs.Lists.{and-true}
 use Rattle.cache.specs.Places.{given}
 use Rattle.walk.specs.Path.{Entry, every}
-use Rattle.series.proofs.Paths.{All}
-use Rattle.series.proofs.Reading.{Read}
+use Rattle.machine.proofs.Paths.{All}
+use Rattle.machine.proofs.Reading.{Read}
 
 -- the rights in their number
 pub number-write : (a b c : Bool) → bit (number a b c) 0 ≡ a

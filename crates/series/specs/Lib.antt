@@ -1,4 +1,0 @@
-pub mod Demand
-pub mod History
-pub mod Holds
-pub mod Series
