@@ -21,7 +21,8 @@ use Rattle.cache.proofs.Laws.{Sixteen, held-empty, held-fill, held-fill-other, 
 use Rattle.machine.specs.Calls.{Call, withRoot}
 use Rattle.machine.specs.Calls as Calls
 use Rattle.machine.specs.Series.{Stand}
-use Rattle.machine.specs.History.{Walk, Latest, none, walk, walkOf, succeeded, faulted, accepted, drops, kept, noted}
+use Rattle.machine.specs.Demand1.{faulted}
+use Rattle.machine.specs.History.{Walk, Latest, none, walk, walkOf, succeeded, accepted, drops, kept, noted}
 use Rattle.machine.proofs.Places.{Alike}
 use Rattle.machine.proofs.Hits.{Backs, backs-global}
 use Rattle.machine.proofs.Lists.{Has, has-keep, has-take, keep-has}

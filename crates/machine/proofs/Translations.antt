@@ -25,7 +25,8 @@ use Rattle.machine.specs.declared.Machine.{Machine}
 use Rattle.machine.specs.Remember.{wanted, placeOf, hit}
 use Rattle.machine.specs.Calls.{Result, step, withCache, only}
 use Rattle.machine.specs.Calls as Calls
-use Rattle.machine.specs.History.{succeeded, faulted}
+use Rattle.machine.specs.Demand1.{faulted}
+use Rattle.machine.specs.History.{succeeded}
 
 module _ (m : Machine) (memory : List ℕ) (address : VirtAddr) (access mode : ℕ) where
   abbrev s : Settings

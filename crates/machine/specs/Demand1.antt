@@ -1,12 +1,12 @@
 -- Demand 1: "Any numbers, any memory and any remembered state get an answer. A refusal names its number and changes no guest byte. It leaves the remembered state alone too, except that a page fault or a table outside memory drops the page asked for."
 use Prim.Native.Nat.{ℕ, _≤_}
 use mathlib.Core.Path.{_≡_}
-use mathlib.Core.Bool.{Bool, true, false, cond}
+use mathlib.Core.Bool.{Bool, true, not, _||_, cond}
 use mathlib.Core.List.{List}
+use lib.Dec.{eqb}
 use lib.ListN.{length}
 use Rattle.address.specs.Address.{tag}
 use Rattle.walk.specs.declared.Answer.{Answer}
-use Rattle.walk.specs.declared.Answer.the-variants as Answer
 use Rattle.walk.specs.Translate.{numbers}
 use Rattle.cache.specs.declared.Place.{Place}
 use Rattle.cache.specs.Places.{otherTag}
@@ -17,21 +17,11 @@ use Rattle.machine.specs.Calls.{Call, translate, store, root, settings, 
 
 -- a refusal: any answer but 0
 abbrev pub refused : Answer → Bool
-refused (Answer.Done at size n) = false
-refused Answer.Unknown = true
-refused Answer.NotServed = true
-refused Answer.Form = true
-refused (Answer.Outside at l n) = true
-refused (Answer.Fault code l n) = true
+refused r = not (eqb (numbers r .answer) 0)
 
--- "a page fault or a table outside memory"
+-- "a page fault or a table outside memory", read off the answer
 abbrev pub faulted : Answer → Bool
-faulted (Answer.Done at size n) = false
-faulted Answer.Unknown = false
-faulted Answer.NotServed = false
-faulted Answer.Form = false
-faulted (Answer.Outside at l n) = true
-faulted (Answer.Fault code l n) = true
+faulted r = eqb (numbers r .answer) 4 || eqb (numbers r .answer) 5
 
 -- what a refused call leaves of a set's places: a translation's 4 or 5 "drops the page asked for", all else stays
 abbrev pub leaves : Call → Answer → List Place → List Place

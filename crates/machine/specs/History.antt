@@ -15,6 +15,7 @@ use Rattle.walk.specs.Path.{Entry, End, outside, missing, reserved, page, entri
 use Rattle.walk.specs.Walk.{walkPath}
 use Rattle.machine.specs.Calls.{Call}
 use Rattle.machine.specs.Calls as Calls
+use Rattle.machine.specs.Demand1.{faulted}
 use Rattle.machine.specs.Series.{Event, call, stores, Stand, gives, leads}
 
 -- an entry that a walk read, and what the walk left in it
@@ -52,10 +53,6 @@ walkOf s address before after =
 -- a successful walk, read off its answer: 0 with entries read
 abbrev pub succeeded : Answer → Bool
 succeeded r = eqb (numbers r .answer) 0 && not (eqb (numbers r .reads) 0)
-
--- "a translation's 4 or 5 drops the asked page", read off its answer
-abbrev pub faulted : Answer → Bool
-faulted r = eqb (numbers r .answer) 4 || eqb (numbers r .answer) 5
 
 -- a load that is accepted, read off its answer: 0
 abbrev pub accepted : Answer → Bool
