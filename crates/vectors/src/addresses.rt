@@ -5,33 +5,16 @@ use crate::print::text;
 use address::PhysAddr;
 use address::VirtAddr;
 
-// Prints an index of an address.
+// Prints the index of an address at a level.
 fn index(address: VirtAddr, level: u64) {
     text(b" ");
     decimal(address.index(level));
 }
 
-// Prints the four indexes of an address.
-fn indexes(address: VirtAddr) {
-    text(b", indexes");
-    index(address, 4);
-    index(address, 3);
-    index(address, 2);
-    index(address, 1);
-}
-
-// Prints an offset of an address.
+// Prints the offset of an address in a page of a size.
 fn offset(address: VirtAddr, size: u64) {
     text(b" ");
     hex(address.offset(size));
-}
-
-// Prints the offsets of an address in a page of each size.
-fn offsets(address: VirtAddr) {
-    text(b", offsets");
-    offset(address, 1);
-    offset(address, 2);
-    offset(address, 3);
 }
 
 // Prints whether an address is canonical.
@@ -49,8 +32,15 @@ fn split(plain: u64) {
     text(b"address ");
     hex(plain);
     form(address);
-    indexes(address);
-    offsets(address);
+    text(b", indexes");
+    index(address, 4);
+    index(address, 3);
+    index(address, 2);
+    index(address, 1);
+    text(b", offsets");
+    offset(address, 1);
+    offset(address, 2);
+    offset(address, 3);
     text(b", tag ");
     hex(address.tag());
     text(b"\n");

@@ -102,8 +102,8 @@ fn read(table: u64, index: u64) {
     text(b"\n");
 }
 
-// "PS at level 3 ends the walk with bits 51:30 as base, at level 2 with bits 51:21. At level 1 bit 7 is PAT."
-fn pages() {
+// "PS at level 3 ends the walk with bits 51:30 as base, at level 2 with bits 51:21. At level 1 bit 7 is PAT.", "P clear at any level: fault"
+fn plain() {
     at(0x2007, 4, 40, true);
     at(0x3007, 3, 40, true);
     at(0x8000_0087, 3, 40, true);
@@ -112,10 +112,6 @@ fn pages() {
     at(0x80_1087, 2, 40, true);
     at(0x5007, 1, 40, true);
     at(0x5087, 1, 40, true);
-}
-
-// "P clear at any level: fault ..., other bits of the entry unread."
-fn missing() {
     at(0, 4, 40, true);
     at(0xffff_ffff_ffff_fffe, 1, 40, false);
 }
@@ -160,8 +156,7 @@ fn reads() {
 
 // The examples of one entry.
 pub(crate) fn all() {
-    pages();
-    missing();
+    plain();
     reserved();
     bits();
     reads();

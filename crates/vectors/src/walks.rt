@@ -2,9 +2,7 @@
 use crate::print::decimal;
 use crate::print::hex;
 use crate::print::text;
-use crate::records::usual;
-use crate::records::with_cr0;
-use crate::records::with_efer;
+use crate::records::record;
 use crate::records::with_width;
 use address::VirtAddr;
 use settings::Settings;
@@ -26,7 +24,7 @@ const SUPERVISOR: u64 = 0;
 
 const USER: u64 = 1;
 
-// Lays the exercises' entries of the tables of levels 4 and 3.
+// Lays the exercises' entries of the tables at 0x1000 and 0x2000.
 fn lay_high(memory: &mut [u8]) {
     store64(memory, 0x1000, 0x2007);
     store64(memory, 0x1008, 0x2005);
@@ -35,7 +33,7 @@ fn lay_high(memory: &mut [u8]) {
     store64(memory, 0x2018, 0x9007);
 }
 
-// Lays the exercises' entries of the tables of levels 2 and 1.
+// Lays the exercises' entries of the tables at 0x3000 and 0x4000.
 fn lay_low(memory: &mut [u8]) {
     store64(memory, 0x3010, 0x4007);
     store64(memory, 0x3018, 0x80_0087);
@@ -66,17 +64,13 @@ fn changed(memory: &[u8], at: u64, was: u64) {
     }
 }
 
-// Prints the entries of the tables of levels 4 and 3 that changed.
-fn changed_high(memory: &[u8]) {
+// Prints the exercises' entries that changed.
+fn changes(memory: &[u8]) {
     changed(memory, 0x1000, 0x2007);
     changed(memory, 0x1008, 0x2005);
     changed(memory, 0x2000, 0x3007);
     changed(memory, 0x2008, 0x8000_0087);
     changed(memory, 0x2018, 0x9007);
-}
-
-// Prints the entries of the tables of levels 2 and 1 that changed.
-fn changed_low(memory: &[u8]) {
     changed(memory, 0x3010, 0x4007);
     changed(memory, 0x3018, 0x80_0087);
     changed(memory, 0x3020, 0x80_2087);
@@ -99,173 +93,122 @@ fn told(told: Numbers) {
     decimal(told.reads);
 }
 
-// Prints one exercise.
-fn ask(words: &[u8], settings: Settings, mode: u64, access: u64, address: u64) {
+// Prints words and a number that is none of document 01's.
+fn unknown(words: &[u8], number: u64) {
+    text(words);
+    decimal(number);
+    text(b" ");
+}
+
+// Prints a mode.
+fn who(mode: u64) {
+    match mode {
+        0 => text(b"supervisor "),
+        1 => text(b"user "),
+        _ => unknown(b"mode ", mode),
+    }
+}
+
+// Prints an access.
+fn what(access: u64) {
+    match access {
+        0 => text(b"read "),
+        1 => text(b"write "),
+        2 => text(b"fetch "),
+        _ => unknown(b"access ", access),
+    }
+}
+
+// Prints a question, with what is particular to it.
+fn question(note: &[u8], mode: u64, access: u64, address: u64) {
+    who(mode);
+    what(access);
+    hex(address);
+    text(note);
+}
+
+// Prints one exercise, on fresh memory.
+fn ask(note: &[u8], settings: Settings, mode: u64, access: u64, address: u64) {
     let mut memory = [0u8; 32768];
     lay_high(&mut memory);
     lay_low(&mut memory);
-    let answer = translate(&mut memory, settings, VirtAddr(address), access, mode);
-    text(words);
-    told(numbers(answer));
-    changed_high(&memory);
-    changed_low(&memory);
+    question(note, mode, access, address);
+    told(numbers(translate(&mut memory, settings, VirtAddr(address), access, mode)));
+    changes(&memory);
     text(b"\n");
+}
+
+// Prints a walk over one entry that names its own table, and so is read at every level.
+fn ask_round(access: u64) {
+    let mut memory = [0u8; 8192];
+    store64(&mut memory, 0x1000, 0x1007);
+    question(b", one table at every level", USER, access, 0xabc);
+    told(numbers(translate(&mut memory, with_width(40), VirtAddr(0xabc), access, USER)));
+    changed(&memory, 0x1000, 0x1007);
+    text(b"\n");
+}
+
+// Prints one exercise under the exercises' settings.
+fn usual(mode: u64, access: u64, address: u64) {
+    ask(b"", with_width(40), mode, access, address);
 }
 
 // The starred exercises that end at a page.
 fn given() {
-    ask(b"user read 0x403abc", usual(), USER, READ, 0x40_3abc);
-    ask(b"user read 0x612345", usual(), USER, READ, 0x61_2345);
-    ask(b"user read 0x52345678", usual(), USER, READ, 0x5234_5678);
-    ask(b"user read 0xa00010", usual(), USER, READ, 0xa0_0010);
+    usual(USER, READ, 0x40_3abc);
+    usual(USER, READ, 0x61_2345);
+    usual(USER, READ, 0x5234_5678);
+    usual(USER, READ, 0xa0_0010);
     ask(
-        b"supervisor write 0x406000, WP 0",
-        with_cr0(0x8000_0001),
+        b", WP 0",
+        record(0x8000_0001, 0x1000, 0x20, 0x900, 40),
         SUPERVISOR,
         WRITE,
         0x40_6000,
     );
-    ask(
-        b"supervisor read 0x408000, M 41",
-        with_width(41),
-        SUPERVISOR,
-        READ,
-        0x40_8000,
-    );
+    ask(b", M 41", with_width(41), SUPERVISOR, READ, 0x40_8000);
 }
 
-// The starred exercises that end in a page fault.
-fn faults() {
-    ask(b"user read 0x800000", usual(), USER, READ, 0x80_0000);
-    ask(b"user write 0x406000", usual(), USER, WRITE, 0x40_6000);
+// The starred exercises that end in a refusal.
+fn refused() {
+    usual(USER, READ, 0x80_0000);
+    usual(USER, WRITE, 0x40_6000);
+    usual(SUPERVISOR, WRITE, 0x40_6000);
+    usual(USER, WRITE, 0x80_8000_0000);
+    usual(USER, FETCH, 0x40_7000);
     ask(
-        b"supervisor write 0x406000",
-        usual(),
-        SUPERVISOR,
-        WRITE,
-        0x40_6000,
-    );
-    ask(
-        b"user write 0x8080000000",
-        usual(),
-        USER,
-        WRITE,
-        0x80_8000_0000,
-    );
-    ask(b"user fetch 0x407000", usual(), USER, FETCH, 0x40_7000);
-    ask(
-        b"user read 0x407000, NXE 0",
-        with_efer(0x100),
+        b", NXE 0",
+        record(0x8001_0001, 0x1000, 0x20, 0x100, 40),
         USER,
         READ,
         0x40_7000,
     );
-    ask(
-        b"supervisor read 0x408000",
-        usual(),
-        SUPERVISOR,
-        READ,
-        0x40_8000,
-    );
-    ask(
-        b"supervisor read 0xffff800000000000",
-        usual(),
-        SUPERVISOR,
-        READ,
-        0xffff_8000_0000_0000,
-    );
+    usual(SUPERVISOR, READ, 0x40_8000);
+    usual(SUPERVISOR, READ, 0xffff_8000_0000_0000);
+    usual(SUPERVISOR, READ, 0xc000_0000);
+    usual(USER, READ, 0xc000_0000);
+    usual(SUPERVISOR, READ, 0x8000_0000_0000);
+    usual(USER, FETCH, 0x8000_0000_0000);
 }
 
-// The starred exercises that end outside memory, or for the address's form.
-fn others() {
+// "M 31 and 53: answer 2; 32 (with root 0x1000) and 52 served", "tested in this order: 1, 2, 3", and "Paging off"
+fn tested() {
+    ask(b", M 31", with_width(31), USER, READ, 0x40_3abc);
+    ask(b", M 32", with_width(32), USER, READ, 0x40_3abc);
+    ask(b", M 52", with_width(52), USER, READ, 0x40_3abc);
+    ask(b", M 53", with_width(53), USER, READ, 0x40_3abc);
+    ask(b", M 31", with_width(31), USER, 3, 0x8000_0000_0000);
+    ask(b", M 31", with_width(31), 2, READ, 0x8000_0000_0000);
+    ask(b", M 31", with_width(31), USER, READ, 0x8000_0000_0000);
     ask(
-        b"supervisor read 0xc0000000",
-        usual(),
-        SUPERVISOR,
-        READ,
-        0xc000_0000,
-    );
-    ask(b"user read 0xc0000000", usual(), USER, READ, 0xc000_0000);
-    ask(
-        b"supervisor read 0x800000000000",
-        usual(),
-        SUPERVISOR,
-        READ,
-        0x8000_0000_0000,
-    );
-    ask(
-        b"user fetch 0x800000000000",
-        usual(),
-        USER,
-        FETCH,
-        0x8000_0000_0000,
-    );
-}
-
-// "M 31 and 53: answer 2; 32 (with root 0x1000) and 52 served"
-fn widths() {
-    ask(
-        b"user read 0x403abc, M 31",
-        with_width(31),
-        USER,
-        READ,
-        0x40_3abc,
-    );
-    ask(
-        b"user read 0x403abc, M 32",
-        with_width(32),
-        USER,
-        READ,
-        0x40_3abc,
-    );
-    ask(
-        b"user read 0x403abc, M 52",
-        with_width(52),
-        USER,
-        READ,
-        0x40_3abc,
-    );
-    ask(
-        b"user read 0x403abc, M 53",
-        with_width(53),
-        USER,
-        READ,
-        0x40_3abc,
-    );
-}
-
-// "tested in this order: 1, 2, 3", and "Paging off: an address below 2^32 is its own physical address, else answer 3."
-fn tests() {
-    ask(
-        b"access 3, M 31, 0x800000000000",
-        with_width(31),
-        USER,
-        3,
-        0x8000_0000_0000,
-    );
-    ask(
-        b"mode 2, M 31, 0x800000000000",
-        with_width(31),
-        2,
-        READ,
-        0x8000_0000_0000,
-    );
-    ask(
-        b"M 31, 0x800000000000",
-        with_width(31),
-        USER,
-        READ,
-        0x8000_0000_0000,
-    );
-    ask(
-        b"paging off, user write 0xffffffff",
+        b", paging off",
         Settings::initial(),
         USER,
         WRITE,
         0xffff_ffff,
     );
     ask(
-        b"paging off, user write 0x100000000",
+        b", paging off",
         Settings::initial(),
         USER,
         WRITE,
@@ -276,8 +219,8 @@ fn tests() {
 // Every exercise.
 pub(crate) fn all() {
     given();
-    faults();
-    others();
-    widths();
-    tests();
+    refused();
+    tested();
+    ask_round(READ);
+    ask_round(WRITE);
 }
