@@ -1,8 +1,8 @@
 -- Laws of sums in 64 bits.
-use Prim.Native.Nat.{ℕ, _+_, _*_, _%_, _^_, _<_, _≤_}
+use Prim.Native.Nat.{ℕ, _+_, _*_, _%_, _^_, _<_}
 use native.Mathlib.Nat.{mod-eq-of-lt}
 use native.Mathlib.Omega.{arith}
-use mathlib.Core.Path.{_≡_, refl, ap}
+use mathlib.Core.Path.{_≡_, ap}
 use Rattle.address.specs.declared.PhysAddr.{PhysAddr}
 use Rattle.address.specs.Address.{entryAddress, plus}
 

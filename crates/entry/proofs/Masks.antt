@@ -1,14 +1,14 @@
 -- Masks of neighbouring bits, and the mask of the bits reserved in every entry.
 use Prim.Native.Nat.{ℕ, zero, suc, _+_, _-_, _*_, _/_, _%_, _^_, _<_, _≤_}
-use native.Mathlib.Nat.{add-zero, zero-add, zero-mul, one-mul, mod-lt, mod-eq-of-lt, mod-one, sub-add-cancel, sub-eq-zero-of-le, lt-of-le-of-lt, mul-pos, sub-le}
+use native.Mathlib.Nat.{add-zero, zero-add, zero-mul, mod-lt, mod-eq-of-lt, mod-one, sub-add-cancel, sub-eq-zero-of-le, lt-of-le-of-lt, mul-pos, sub-le}
 use native.Mathlib.Decide.{decLe}
 use native.Mathlib.Omega.{arith}
 use mathlib.Core.Path.{_≡_, refl, ap, ap₂, sym, _∙_}
-use mathlib.Core.Bool.{Bool, true, false, not, _&&_, _||_, cond}
-use borrow.Author.Tests.{eq-eqb, ne-eqb}
+use mathlib.Core.Bool.{Bool, true, false, not, _||_}
+use borrow.Author.Tests.{ne-eqb}
 use lib.Bits.{bitAnd, and-high, and-mask, and-mod, and-block, and-le-r, and-zero-r}
-use lib.Dec.{eqb, lit<, lit≤}
-use lib.Pow.{pow-pos, pow-mono, split, shr-lt}
+use lib.Dec.{eqb, lit<}
+use lib.Pow.{pow-pos, pow-mono, split}
 use Rattle.word.specs.Bits.{bit, field}
 use Rattle.entry.specs.Says.{aboveWidth, executeDisabled, forbidden, under, says, told, isPage, sizeTooLarge, insidePage}
 

@@ -4,13 +4,12 @@ use native.Mathlib.Nat.{mod-lt, div-div-eq-div-mul}
 use lib.Arith.{mod-mul, bin-ind}
 use lib.Pow.{shr-mod}
 use native.Mathlib.Omega.{arith}
-use mathlib.Core.Path.{_≡_, refl, ap, sym, _∙_}
+use mathlib.Core.Path.{_≡_, refl}
 use mathlib.Core.Bool.{Bool, true, false, not, _&&_, _||_, cond, Bool·beq, false≢true}
 use borrow.Author.Tests.{eqb-true}
 use lib.Bits.{bitAnd, and-step, and-zero-l}
 use lib.Dec.{eqb, lit<}
 use mir.Val.{boolByte}
-use Rattle.word.specs.Bits.{bit}
 use Rattle.entry.specs.Rights.{number, own, allow}
 
 -- a bool as a number

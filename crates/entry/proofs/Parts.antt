@@ -1,18 +1,15 @@
 -- A load from the part of memory that starts at a base is a load from memory.
-use Prim.Native.Nat.{ℕ, zero, suc, _+_, _-_, _*_, _≤_}
+use Prim.Native.Nat.{ℕ, zero, suc, _+_, _-_, _≤_}
 use native.Mathlib.Nat.{add-suc, le-refl}
 use native.Mathlib.Omega.{arith}
-use mathlib.Core.Path.{_≡_, refl, ap, sym, _∙_}
-use mathlib.Core.Bool.{Bool, cond}
+use mathlib.Core.Path.{_≡_, refl, sym, _∙_}
 use mathlib.Core.List.{List}
 use lib.Dec.{leb}
-use lib.ListN.{length, getD, take, drop, length-drop}
+use lib.ListN.{length, take, drop, length-drop}
 use lib.Seq.{getD-drop, take-all}
 use native.Mathlib.Decide.{decLe}
 use borrow.Author.Tests.{le-leb, lt-leb}
 use Rattle.word.specs.Bytes.{load, loaded}
-use Rattle.word.specs.declared.Loaded.{Loaded}
-use Rattle.word.specs.declared.Loaded.the-variants.{Value, Outside}
 
 pub load-drop : (width b : ℕ) (l : List ℕ) (i : ℕ) → load width (drop b l) i ≡ load width l (b + i)
 unfolding load

@@ -1,6 +1,6 @@
 -- Rights: what an entry gives, and whether what is held includes what is needed.
 use Prim.Native.Nat.{ℕ, _+_, _*_}
-use mathlib.Core.Bool.{Bool, not, _&&_, _||_, cond}
+use mathlib.Core.Bool.{Bool, not, cond}
 use lib.Bits.{bitAnd}
 use lib.Dec.{eqb}
 use Rattle.word.specs.Bits.{bit}

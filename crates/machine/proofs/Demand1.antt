@@ -6,7 +6,6 @@ use mathlib.Core.List.{List}
 use lib.Dec.{lit≤}
 use lib.ListN.{length}
 use Rattle.word.specs.Bytes.{inside, store}
-use Rattle.settings.specs.declared.Settings.{Settings}
 use Rattle.settings.specs.Settings.{served}
 use Rattle.address.specs.declared.VirtAddr.{VirtAddr}
 use Rattle.address.specs.Address.{tag}
@@ -20,7 +19,6 @@ use Rattle.walk.specs.declared.Walked.the-variants as Walked
 use Rattle.walk.specs.Path.{Path}
 use Rattle.walk.specs.Translate.{asked, answered, numbers}
 use Rattle.walk.specs.Walk.{walkPath, walkAnswer, after}
-use Rattle.cache.specs.declared.Cache.{Cache}
 use Rattle.cache.specs.declared.Found.{Found}
 use Rattle.cache.specs.declared.Found.the-variants as Found
 use Rattle.cache.specs.Whole.{held, findCache, emptyCache, loadRoot}
@@ -28,7 +26,7 @@ use Rattle.cache.proofs.Laws.{held-drop}
 use Rattle.machine.specs.declared.Machine.{Machine}
 use Rattle.machine.specs.Calls.{Call, translate, Result, step, translated, askedResult, foundResult, remembered, storedResult, rootResult, settingsResult, pageResult, allResult, done, withRoot, withSettings}
 use Rattle.machine.specs.Calls as call
-use Rattle.machine.specs.Demand1.{Demand1, Kept, refused, leaves}
+use Rattle.machine.specs.Demand1.{Demand1, refused, leaves}
 use Rattle.machine.specs.Remember.{wanted}
 
 -- what a refusal keeps, of a result

@@ -1,8 +1,7 @@
 -- A walk that succeeds ends at a level from the root's down.
 use Prim.Native.Nat.{ℕ, zero, suc, _+_, _*_, _≤_}
-use native.Mathlib.Nat.{le-refl, le-step}
 use native.Mathlib.Omega.{arith}
-use mathlib.Core.Path.{_≡_, refl, sym, subst}
+use mathlib.Core.Path.{_≡_, refl}
 use mathlib.Core.Bool.{Bool, true, false, cond}
 use mathlib.Core.List.{List}
 use Rattle.word.specs.Bytes.{load, inside}
@@ -18,7 +17,7 @@ use Rattle.walk.specs.declared.Access.{Access}
 use Rattle.walk.specs.declared.Walked.{Walked}
 use Rattle.walk.specs.declared.Walked.the-variants as Walked
 use Rattle.walk.specs.Access.{needed}
-use Rattle.walk.specs.Path.{Path, End, Entry, ends, next, outside, missing, reserved, page, onward, path, endOf, rights}
+use Rattle.walk.specs.Path.{Path, End, Entry, ends, outside, missing, reserved, page, onward, path, endOf, rights}
 use Rattle.walk.specs.Walk.{ended, walkAnswer, walkPath}
 use Rattle.machine.specs.Sets.{SizeWithin}
 

@@ -1,6 +1,6 @@
 -- Every call of the machine: its answer, the machine and memory afterwards.
 use Prim.Native.Nat.{ℕ}
-use mathlib.Core.Bool.{Bool, cond}
+use mathlib.Core.Bool.{cond}
 use mathlib.Core.List.{List}
 use Rattle.word.specs.Bytes.{inside, stored}
 use Rattle.settings.specs.declared.Settings.{Settings}

@@ -1,6 +1,6 @@
 -- The latest successful walk of a page since it was last dropped: computed from calls, answers and memory, never from the cache.
 use Prim.Native.Nat.{ℕ}
-use mathlib.Core.Bool.{Bool, true, false, not, _&&_, _||_, cond}
+use mathlib.Core.Bool.{Bool, true, false, not, _&&_, cond}
 use mathlib.Core.List.{List, [], _∷_}
 use lib.Dec.{eqb}
 use Rattle.word.specs.Bits.{bit}

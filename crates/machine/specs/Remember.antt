@@ -1,6 +1,5 @@
 -- What a translation wants of a place, what a walk leaves in one, and what a hit is answered.
-use Prim.Native.Nat.{ℕ}
-use mathlib.Core.Bool.{Bool, true, _&&_, _||_}
+use mathlib.Core.Bool.{true, _&&_, _||_}
 use Rattle.word.specs.Bits.{bit}
 use Rattle.settings.specs.declared.Settings.{Settings}
 use Rattle.settings.specs.Settings.{pge}

@@ -19,7 +19,6 @@ use walk::translate::ask;
 use walk::walk::walk;
 ghost use mathlib.Core.Path.{_≡_};
 ghost use Rattle.address.specs.Address.{tag};
-ghost use Rattle.cache.specs.Places.{setIndex};
 ghost use Rattle.walk.specs.Translate.{answered};
 ghost use Rattle.walk.specs.Walk.{walkAnswer, walkMemory};
 ghost use Rattle.machine.specs.Calls as spec;

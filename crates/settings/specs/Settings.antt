@@ -1,6 +1,6 @@
 -- "Settings": the record's named bits, what is served, the root.
 use Prim.Native.Nat.{ℕ, _*_, _/_, _^_}
-use mathlib.Core.Bool.{Bool, true, false, not, _&&_, _||_, cond}
+use mathlib.Core.Bool.{Bool, not, _&&_, _||_, cond}
 use lib.Dec.{eqb, leb, ltb}
 use Rattle.word.specs.Bits.{bit, field}
 use Rattle.settings.specs.declared.Settings.{Settings}

@@ -6,7 +6,7 @@ use mathlib.Core.Path.{_≡_, refl, ap, sym, _∙_}
 use mathlib.Core.List.{List}
 use lib.Dec.{lit<}
 use lib.Pow.{pow-mono, shl-exact}
-use lib.ListN.{length, getD, set, length-set}
+use lib.ListN.{length, length-set}
 use Rattle.word.specs.Bytes.{load, store}
 
 -- a load of j + k bytes is a load of the low j and of the high k
