@@ -10,6 +10,14 @@ ghost use Rattle.word.specs.Bits.{field};
 ghost use Rattle.address.specs.Address.{pageBits};
 ghost use Rattle.entry.specs.Says as spec;
 
+// Entry bits, by the chapter's names: present, and page size.
+const P: u64 = 0;
+
+const PS: u64 = 7;
+
+// The highest level at which a page can end.
+const LARGEST: u64 = 3;
+
 // Bits 51 to M, as a mask.
 fn above_width(width: u64) -> u64
     ensures { λ r. ⌜ (r ≡ 2 ^ 52 - 2 ^ width) × (r ≤ 2 ^ 52) ⌝ }
@@ -58,7 +66,7 @@ fn inside_page(entry: u64, level: u64) -> bool
 pub fn under(entry: u64, level: u64, forbidden: u64) -> Says
     ensures { λ r. ⌜ r ≡ spec.under forbidden level entry ⌝ }
 {
-    if !bit(entry, 0) {
+    if !bit(entry, P) {
         return Says::Missing;
     }
     if entry & forbidden != 0 {
@@ -67,10 +75,10 @@ pub fn under(entry: u64, level: u64, forbidden: u64) -> Says
     if level <= 1 {
         return Says::Page(page_base(entry, level));
     }
-    if !bit(entry, 7) {
+    if !bit(entry, PS) {
         return Says::Table(table_base(entry));
     }
-    if 3 < level {
+    if LARGEST < level {
         return Says::Reserved;
     }
     if inside_page(entry, level) {

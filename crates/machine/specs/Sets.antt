@@ -2,7 +2,7 @@
 use Prim.Native.Nat.{ℕ, _≤_}
 use Rattle.settings.specs.declared.Settings.{Settings}
 use Rattle.address.specs.declared.VirtAddr.{VirtAddr}
-use Rattle.address.specs.Address.{tag}
+use Rattle.address.specs.Address.{levels, tag}
 use Rattle.walk.specs.declared.Access.{Access}
 use Rattle.walk.specs.declared.Asked.{Asked}
 use Rattle.walk.specs.declared.Asked.the-variants as Asked
@@ -43,8 +43,8 @@ changed s set address a (Walked.Mapped found) = fillSet (setIndex (tag address))
 changed s set address a (Walked.Refused cause n) = dropSet (setIndex (tag address)) (tag address) set
 changed s set address a (Walked.Outside at l n) = dropSet (setIndex (tag address)) (tag address) set
 
--- a walk finds pages of a level at most
+-- a walk finds a page at one of its levels
 abbrev pub SizeWithin : Walked → Type 0
-SizeWithin (Walked.Mapped found) = found .size ≤ 4
+SizeWithin (Walked.Mapped found) = found .size ≤ levels
 SizeWithin (Walked.Refused cause n) = Unit {0}
 SizeWithin (Walked.Outside at l n) = Unit {0}

@@ -12,6 +12,18 @@ ghost use mathlib.Core.Path.{_≡_};
 ghost use Prim.Native.Nat.{_≤_};
 ghost use Rattle.machine.specs.Remember as spec;
 
+// Entry bits, by the chapter's names: dirty, and global.
+const D: u64 = 6;
+
+const G: u64 = 8;
+
+// The bits of rights as a number.
+const WRITE: u64 = 0;
+
+const USER: u64 = 1;
+
+const FETCH: u64 = 2;
+
 // What a translation wants of a place.
 pub(crate) fn wanted(settings: Settings, address: VirtAddr, access: Access) -> Wanted
     ensures { λ r. ⌜ r ≡ spec.wanted settings address access ⌝ }
@@ -40,17 +52,17 @@ pub(crate) fn place_of(
     let size = found.size;
     let physical = base.plus(address.offset(size));
     let frame = physical.frame();
-    let global = bit(found.last, 8);
+    let global = bit(found.last, G);
     let pge = settings.pge();
-    let dirty = bit(found.last, 6);
+    let dirty = bit(found.last, D);
     Place {
         tag: address.tag(),
         frame,
         size: size as u8,
         marked: true,
-        write: bit(found.rights, 0),
-        user: bit(found.rights, 1),
-        fetch: bit(found.rights, 2),
+        write: bit(found.rights, WRITE),
+        user: bit(found.rights, USER),
+        fetch: bit(found.rights, FETCH),
         dirty: dirty | access.write,
         global: global & pge,
     }
