@@ -1,18 +1,22 @@
 /*
  * Aalbrett for a host in C: the paging part of an x86-64 board emulator.
  *
- * Link with the archive libaalbrett.a alone; it calls nothing, neither of the C library nor of the
- * host, keeps nothing between calls, and allocates nothing:
+ * Link with the archive libaalbrett.a alone; it calls nothing of the host and of the C library only
+ * memcpy, keeps nothing of its own between calls, and allocates nothing:
  *
  *     rt staticlib aalbrett                       writes target/staticlib/libaalbrett.a
  *     cc -I hosts host.c target/staticlib/libaalbrett.a -o host
  *
  * The archive is for x86-64, System V calling convention. Calls from several threads at once are
  * fine as long as no two of them lend the same bytes.
+ *
+ * aalbrett_walk translates with nothing remembered. An emulator that remembers, as a processor does,
+ * owns a struct aalbrett_machine: aalbrett_start starts it, and aalbrett_step makes one call on it.
  */
 #ifndef AALBRETT_H
 #define AALBRETT_H
 
+#include <stdbool.h>
 #include <stddef.h>
 #include <stdint.h>
 
@@ -32,19 +36,23 @@ extern "C" {
  * The numbers answered, with what value and detail are then.
  *
  *   number      meaning                        value                          detail
- *   DONE        translated                     the physical address           1, 2, 3: a page of 4 KiB, 2 MiB,
- *                                                                             1 GiB; 0: paging is off
- *   UNKNOWN     access or mode unknown         0                              0
+ *   DONE        translated, or done            the physical address; 0 where  1, 2, 3: a page of 4 KiB, 2 MiB,
+ *                                              no translation was asked       1 GiB; 0: paging is off, or no
+ *                                                                             translation was asked
+ *   UNKNOWN     access, mode or card kind      0                              0
+ *               unknown
  *   NOT_SERVED  settings not served            0                              0
  *   FORM        address not canonical; with    0                              0
  *               paging off, not below 2^32
- *   OUTSIDE     a table entry lies outside     the entry's physical address   level of the table, 4 to 1
- *               the memory lent
+ *   OUTSIDE     a table entry, or a card's     the entry's physical address,  level of the table, 4 to 1; 0 for
+ *               store, lies outside the        or the store's                 a store
+ *               memory lent
  *   FAULT       page fault                     the error code                 level of the entry at fault, 4 to 1
+ *   CARD_SHORT  a card of other than 32 bytes  0                              0
  *   SHORT       answer buffer below 32 bytes   nothing is written
  *
- * They are tested in the order SHORT, UNKNOWN, NOT_SERVED, FORM, and then OUTSIDE and FAULT as the
- * walk meets them. 6 is a number of exercise cards and never the answer of a walk.
+ * They are tested in the order SHORT, CARD_SHORT, UNKNOWN, NOT_SERVED, FORM, and then OUTSIDE and
+ * FAULT as the walk meets them.
  *
  * The error code's bits: 0 the entry was present, 1 write, 2 user, 3 reserved bit set, 4 fetch with
  * EFER.NXE = 1. For a fault of rights the level is the highest whose own entry lacks a needed right.
@@ -55,6 +63,7 @@ extern "C" {
 #define AALBRETT_FORM 3
 #define AALBRETT_OUTSIDE 4
 #define AALBRETT_FAULT 5
+#define AALBRETT_CARD_SHORT 6
 #define AALBRETT_SHORT 7
 
 /*
@@ -110,6 +119,113 @@ uint64_t aalbrett_walk(
     uint64_t mode,
     uint8_t *memory,
     size_t memory_length,
+    uint8_t *answer,
+    size_t answer_length);
+
+/* The registers and the physical width M. */
+struct aalbrett_settings {
+    uint64_t cr0;
+    uint64_t cr3;
+    uint64_t cr4;
+    uint64_t efer;
+    uint64_t width;
+};
+
+/*
+ * A remembered translation of one 4 KiB piece of a page.
+ *
+ * It counts only if marked, its tag is below 2^52 and belongs to its set, its frame is below 2^40 and
+ * its size is 1 to 3; every other place reads as empty.
+ */
+struct aalbrett_place {
+    uint64_t tag;   /* the virtual address divided by 4,096 */
+    uint64_t frame; /* the physical address divided by 4,096 */
+    uint8_t size;   /* 1, 2, 3: of a page of 4 KiB, 2 MiB, 1 GiB */
+    bool marked;
+    bool write; /* the rights that all entries of its walk gave */
+    bool user;
+    bool fetch;
+    bool dirty;  /* Dirty, as the walk left it */
+    bool global; /* a root load spares it */
+};
+
+/*
+ * A machine: its settings and what it remembers. A tag's set is its low 4 bits, and the place filled
+ * last stands first. The host owns the record, may copy it, and may read it between calls.
+ *
+ * Each bool must hold 0 or 1, as bools do; all other bits may be anything. So a record of zeros may be
+ * lent, and one that was never written may not.
+ */
+struct aalbrett_machine {
+    struct aalbrett_settings settings;
+    struct aalbrett_place sets[16][4];
+};
+
+/*
+ * Starts a machine: its settings become these, and it remembers nothing.
+ *
+ * Returns DONE, or NOT_SERVED where the settings are not served (see aalbrett_walk); the machine then
+ * has all registers 0 and M = 40. Nothing of what the record held before counts.
+ */
+uint64_t aalbrett_start(
+    struct aalbrett_machine *machine,
+    uint64_t cr0,
+    uint64_t cr3,
+    uint64_t cr4,
+    uint64_t efer,
+    uint64_t width);
+
+/* The kinds of cards. */
+#define AALBRETT_CARD_TRANSLATE 0 /* access, mode, address */
+#define AALBRETT_CARD_STORE 1     /* address, value: 8 bytes of guest memory, at a physical address */
+#define AALBRETT_CARD_ROOT 2      /* value: CR3. All but G places are dropped */
+#define AALBRETT_CARD_PAGE 3      /* address: its page is dropped */
+#define AALBRETT_CARD_ALL 4       /* everything is dropped */
+#define AALBRETT_CARD_SETTINGS 5  /* address: CR0 in its low half, CR4 in its high one; value: EFER; width. CR3 stays,
+                                     and everything is dropped */
+
+/*
+ * A card: one call of the machine, in 32 bytes. Numbers are little-endian, so that on x86-64 a host
+ * may lend a struct aalbrett_card. What a kind does not name is ignored.
+ */
+struct aalbrett_card {
+    uint8_t kind;
+    uint8_t access;
+    uint8_t mode;
+    uint8_t ignored[5];
+    uint64_t address;
+    uint64_t value;
+    uint8_t width;
+    uint8_t ignored_too[7];
+};
+
+/*
+ * One card's step on a machine, in place.
+ *
+ *   machine               changed in place.
+ *   memory, answer        as in aalbrett_walk.
+ *   card                  the card: card_length bytes. Other than 32 are answered CARD_SHORT.
+ *
+ * Returns the answer's number. No card, no machine and no memory is forbidden: each call returns, with
+ * an answer.
+ *
+ * A translation is served from what the machine remembers, and reports 0 entries read, where the page
+ * is remembered with the rights needed, and for a write with Dirty set. Otherwise it walks memory as
+ * aalbrett_walk does; a success is remembered, and OUTSIDE or FAULT drops the page.
+ *
+ * memory is changed by a translation that walks and is answered DONE, as in aalbrett_walk, and by a
+ * store that is answered DONE. SHORT, CARD_SHORT, UNKNOWN, NOT_SERVED and FORM change nothing of
+ * machine or memory, and a store's OUTSIDE neither.
+ *
+ * No two of the four may overlap, and nothing else may use them during the call; the card may be read.
+ * No pointer may be null, also where its length is 0.
+ */
+uint64_t aalbrett_step(
+    struct aalbrett_machine *machine,
+    uint8_t *memory,
+    size_t memory_length,
+    const uint8_t *card,
+    size_t card_length,
     uint8_t *answer,
     size_t answer_length);
 

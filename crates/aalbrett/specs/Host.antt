@@ -6,7 +6,6 @@ use lib.Dec.{ltb}
 use lib.ListN.{length}
 use Rattle.word.specs.Bytes.{store}
 use Rattle.settings.specs.declared.Settings.{Settings}
-use Rattle.address.specs.declared.VirtAddr.{VirtAddr}
 use Rattle.walk.specs.declared.Numbers.{Numbers}
 use Rattle.walk.specs.Translate.{translated, translatedMemory, numbers}
 
@@ -18,15 +17,15 @@ short buffer = ltb (length buffer) 32
 unfoldable pub written : Numbers → List ℕ → List ℕ
 written n buffer = store 8 (store 8 (store 8 (store 8 buffer 0 (n .answer)) 8 (n .value)) 16 (n .detail)) 24 (n .reads)
 
+-- the host's numbers as a settings record
+abbrev pub registers : ℕ → ℕ → ℕ → ℕ → ℕ → Settings
+registers cr0 cr3 cr4 efer width = record { cr0 = cr0; cr3 = cr3; cr4 = cr4; efer = efer; width = width }
+
 -- what the host hands over, in the order of its call
 module _ (cr0 cr3 cr4 efer width address access mode : ℕ) (memory buffer : List ℕ) where
-  -- the host's numbers as a settings record
-  abbrev pub registers : Settings
-  registers = record { cr0 = cr0; cr3 = cr3; cr4 = cr4; efer = efer; width = width }
-
   -- the four numbers of one uncached translation
   abbrev pub told : Numbers
-  told = numbers (translated registers (record { 0 = address }) access mode memory)
+  told = numbers (translated (registers cr0 cr3 cr4 efer width) (record { 0 = address }) access mode memory)
 
   -- the result: "Below 32 bytes the call gives 7 [..]; this is tested first. Otherwise it returns the answer"
   abbrev pub result : ℕ
@@ -34,7 +33,7 @@ module _ (cr0 cr3 cr4 efer width address access mode : ℕ) (memory buffer : Lis
 
   -- guest memory after the call; for a short buffer "writes nothing"
   abbrev pub memoryAfter : List ℕ
-  memoryAfter = cond (short buffer) memory (translatedMemory registers (record { 0 = address }) access mode memory)
+  memoryAfter = cond (short buffer) memory (translatedMemory (registers cr0 cr3 cr4 efer width) (record { 0 = address }) access mode memory)
 
   -- the answer buffer after the call; for a short buffer "writes nothing", else written "on refusals also"
   abbrev pub bufferAfter : List ℕ

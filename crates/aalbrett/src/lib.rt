@@ -1,13 +1,17 @@
-// The host's entries: numbers, lent guest memory and a lent answer buffer.
+// The host's entries: numbers, a lent machine, lent guest memory and a lent answer buffer.
 use crate::buffer::write;
 use address::VirtAddr;
+use machine::Machine;
 use settings::Settings;
 use walk::translate::numbers;
 use walk::translate::translate;
 ghost use mathlib.Core.Path.{_≡_};
+ghost use Rattle.machine.specs.Calls.{started};
 ghost use Rattle.aalbrett.specs.Host as spec;
+ghost use Rattle.aalbrett.specs.Kept as after;
 
 mod buffer;
+mod kept;
 
 // The number answered where the answer buffer is short.
 const SHORT: u64 = 7;
@@ -42,4 +46,36 @@ pub extern "C" fn aalbrett_walk(
     let told = numbers(found);
     write(answer, told);
     told.answer
+}
+
+// Starts a machine that the host lends: gives 0, or 2 where the settings are not served.
+#[no_mangle]
+pub extern "C" fn aalbrett_start(
+    machine: &mut Machine,
+    cr0: u64,
+    cr3: u64,
+    cr4: u64,
+    efer: u64,
+    width: u64,
+) -> u64
+    ensures { λ r. ⌜ (r ≡ after.startNumber (spec.registers cr0 cr3 cr4 efer width)) × (now (machine .exit) ≡ started (spec.registers cr0 cr3 cr4 efer width)) ⌝ }
+{
+    let begun = kept::start(cr0, cr3, cr4, efer, width);
+    *machine = begun.machine;
+    begun.number
+}
+
+// One card's step on a machine that the host lends: gives the answer's number, and writes its four numbers to the buffer.
+#[no_mangle]
+pub extern "C" fn aalbrett_step(
+    machine: &mut Machine,
+    memory: &mut [u8],
+    card: &[u8],
+    answer: &mut [u8],
+) -> u64
+    ensures { λ r. ⌜ (r ≡ after.stepNumber (now (machine .entry)) (now (memory .entry)) (now (card .entry)) (now (answer .entry))) × (now (machine .exit) ≡ after.machineAfter (now (machine .entry)) (now (memory .entry)) (now (card .entry)) (now (answer .entry))) × (now (memory .exit) ≡ after.memoryAfter (now (machine .entry)) (now (memory .entry)) (now (card .entry)) (now (answer .entry))) × (now (answer .exit) ≡ after.bufferAfter (now (machine .entry)) (now (memory .entry)) (now (card .entry)) (now (answer .entry))) ⌝ }
+{
+    let stepped = kept::step(*machine, memory, card, answer);
+    *machine = stepped.machine;
+    stepped.number
 }

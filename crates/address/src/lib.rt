@@ -10,6 +10,7 @@ pub struct VirtAddr(pub u64);
 pub struct PhysAddr(pub u64);
 
 // The number of a 4 KiB frame of guest memory.
+#[repr(C)]
 pub struct Frame(pub u64);
 
 impl VirtAddr {

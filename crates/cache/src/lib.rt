@@ -6,6 +6,7 @@ pub mod whole;
 use address::Frame;
 
 // A remembered translation of one 4 KiB piece.
+#[repr(C)]
 pub struct Place {
     pub tag: u64,
     pub frame: Frame,
@@ -19,11 +20,13 @@ pub struct Place {
 }
 
 // Four places, the one filled last in front.
+#[repr(C)]
 pub struct Set {
     pub places: [Place; 4],
 }
 
 // The sets, each at its number.
+#[repr(C)]
 pub struct Cache {
     pub sets: [Set; 16],
 }

@@ -2,6 +2,7 @@
 use machine::Machine;
 use walk::Numbers;
 
+pub mod lent;
 pub mod value;
 
 // What a card's step gives beside memory: the four numbers and the machine afterwards.

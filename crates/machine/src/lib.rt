@@ -9,6 +9,7 @@ mod remember;
 pub mod translate;
 
 // Settings and what is remembered.
+#[repr(C)]
 pub struct Machine {
     pub settings: Settings,
     pub cache: Cache,

@@ -1,5 +1,5 @@
 // Playing a deck of exercise cards: cards in on standard input, a line for each out.
-use card::value::step;
+use card::lent::turn;
 use libc::STDIN_FILENO;
 use machine::Machine;
 use settings::Settings;
@@ -28,9 +28,9 @@ fn play(machine: Machine, memory: &mut [u8; MEMORY], number: u64) -> Played {
             more: false,
         };
     }
-    let turn = step(machine, memory, &card[0..got]);
-    line::write(number, turn.numbers);
-    let next = turn.machine;
+    let played = turn(machine, memory, &card[0..got]);
+    line::write(number, played.numbers);
+    let next = played.machine;
     Played {
         machine: next,
         more: got == CARD,

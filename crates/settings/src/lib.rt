@@ -5,6 +5,7 @@ ghost use mathlib.Core.Path.{_≡_};
 ghost use Rattle.settings.specs.Settings as spec;
 
 // CR0, CR3, CR4, EFER and the physical width M.
+#[repr(C)]
 pub struct Settings {
     pub cr0: u64,
     pub cr3: u64,

@@ -1,8 +1,13 @@
 //! Aalbrett for a host in Rust: safe calls of the proved archive.
 
+mod answer;
+mod card;
+mod machine;
 mod text;
 mod walk;
 
+pub use card::Card;
+pub use machine::{Machine, Place};
 pub use walk::walk;
 
 /// Access: a read.
@@ -17,14 +22,17 @@ pub const SUPERVISOR: u64 = 0;
 /// Mode: user.
 pub const USER: u64 = 1;
 
-/// Refused: access or mode unknown.
+/// Refused: access, mode or card kind unknown.
 pub const UNKNOWN: u64 = 1;
 /// Refused: settings not served.
 pub const NOT_SERVED: u64 = 2;
 /// Refused: the address is not canonical or, with paging off, not below 2^32.
 pub const FORM: u64 = 3;
+/// Refused: the card is not of 32 bytes.
+pub const CARD_SHORT: u64 = 6;
 
 /// The registers and the physical width M in bits.
+#[repr(C)]
 #[derive(Clone, Copy, Debug, PartialEq, Eq)]
 pub struct Settings {
     pub cr0: u64,
@@ -42,15 +50,16 @@ pub struct Question {
     pub mode: u64,
 }
 
-/// What a question is answered. `reads` counts the table entries read.
+/// What a question or a card is answered. `reads` counts the table entries read.
 #[derive(Clone, Copy, Debug, PartialEq, Eq)]
 pub enum Answer {
     /// The physical address; size is 1, 2 or 3 for a page of 4 KiB, 2 MiB or 1 GiB, and 0 with paging off.
+    /// All are 0 where no translation was asked.
     Done { address: u64, size: u64, reads: u64 },
-    /// The table entry at this physical address lies outside memory.
+    /// The table entry at this physical address lies outside memory; of a card's store, at level 0, the store.
     Outside { entry: u64, level: u64, reads: u64 },
     /// A page fault with its error code and the level of the entry at fault.
     Fault { code: u64, level: u64, reads: u64 },
-    /// Refused before a walk: [`UNKNOWN`], [`NOT_SERVED`] or [`FORM`].
+    /// Refused before a walk: [`UNKNOWN`], [`NOT_SERVED`], [`FORM`] or [`CARD_SHORT`].
     Refused(u64),
 }

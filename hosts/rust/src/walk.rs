@@ -1,5 +1,6 @@
 //! The uncached walk.
 
+use crate::answer::answered;
 use crate::{Answer, Question, Settings};
 
 extern "C" {
@@ -43,30 +44,5 @@ pub fn walk(settings: Settings, question: Question, memory: &mut [u8]) -> Answer
             buffer.len(),
         )
     };
-    let [value, detail, reads] = [8, 16, 24].map(|at| word(&buffer, at));
-    match number {
-        0 => Answer::Done {
-            address: value,
-            size: detail,
-            reads,
-        },
-        4 => Answer::Outside {
-            entry: value,
-            level: detail,
-            reads,
-        },
-        5 => Answer::Fault {
-            code: value,
-            level: detail,
-            reads,
-        },
-        refusal => Answer::Refused(refusal),
-    }
-}
-
-/// The little-endian number at an offset of an answer buffer.
-fn word(buffer: &[u8; 32], at: usize) -> u64 {
-    let mut bytes = [0; 8];
-    bytes.copy_from_slice(&buffer[at..at + 8]);
-    u64::from_le_bytes(bytes)
+    answered(number, &buffer)
 }

@@ -1,0 +1,16 @@
+-- `kept::start` meets its contract.
+use borrow.Author.Needs.{needs}
+use Rattle.aalbrett.proofs.kept.start.Statement.{statement}
+use Rattle.aalbrett.proofs.kept.start.Tie as tie
+
+start-requires : tie.Need-start-requires
+start-requires c κs = search needs
+
+numbers-requires : tie.Need-numbers-requires
+numbers-requires c κs = search needs
+
+returns : tie.Need-returns
+returns c = (rw (c .numbers .ensures, c .before .before .start .ensures .0), c .before .before .start .ensures .1)
+
+pub start-spec : {M : Type 1} → statement M
+start-spec = tie.close (tie.spec start-requires numbers-requires returns)
