@@ -1,12 +1,8 @@
 // The line of one card: its number from 1, answer, value in 16 hexadecimal digits, detail, entries read.
-use libc::STDOUT_FILENO;
 use walk::Numbers;
 ghost use mathlib.Core.Path.{_≡_};
 ghost use Prim.Native.Nat.{_+_, _≤_};
 ghost use lib.ListN.{length};
-
-// The most bytes of a line: four numbers of up to 20 digits, 16 digits, four spaces and the line's end.
-const MOST: usize = 128;
 
 // The digits of a number that are put: all, since no number has more than 20.
 fn digits_put(count: usize) -> usize
@@ -51,13 +47,14 @@ fn put_hex(line: &mut [u8], at: usize, number: u64) -> usize
     put(line, at, &digits[0..count], b' ')
 }
 
-// Writes a card's line.
-pub(crate) fn write(card: u64, numbers: Numbers) {
-    let mut line = [0u8; MOST];
-    let a = put_decimal(&mut line, 0, card, b' ');
-    let b = put_decimal(&mut line, a, numbers.answer, b' ');
-    let c = put_hex(&mut line, b, numbers.value);
-    let d = put_decimal(&mut line, c, numbers.detail, b' ');
-    let e = put_decimal(&mut line, d, numbers.reads, b'\n');
-    io::write_all(STDOUT_FILENO, &line[0..e]);
+// Puts a card's line into a text at a place; gives the place after it.
+pub(crate) fn put_line(text: &mut [u8], at: usize, card: u64, numbers: Numbers) -> usize
+    requires { ⌜ at + 105 ≤ length (now text) ⌝ }
+    ensures { λ r. ⌜ (r ≤ at + 105) × (length (now (text .exit)) ≡ length (now (text .entry))) ⌝ }
+{
+    let a = put_decimal(text, at, card, b' ');
+    let b = put_decimal(text, a, numbers.answer, b' ');
+    let c = put_hex(text, b, numbers.value);
+    let d = put_decimal(text, c, numbers.detail, b' ');
+    put_decimal(text, d, numbers.reads, b'\n')
 }

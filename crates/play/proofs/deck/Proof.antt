@@ -1,11 +1,11 @@
 -- `deck` meets its contract.
 use borrow.Author.Needs.{needs}
-use Prim.Native.Nat.{_≤_}
+use Prim.Native.Nat.{_<_}
 use Rattle.play.proofs.deck.Statement.{statement}
 use Rattle.play.proofs.deck.Tie as tie
 
 abbrev Inv-loop : tie.InvT-loop
-Inv-loop memory₀ machine₀ left₀ memory machine left = left ≤ 18446744073709551615
+Inv-loop memory₀ machine₀ left₀ memory machine left = left < 18446744073709551615
 
 abbrev μ-loop : tie.MeasureT-loop
 μ-loop memory₀ machine₀ left₀ memory machine left = left
@@ -16,23 +16,23 @@ initial-requires c κs = search needs
 start-requires : tie.Need-start-requires Inv-loop μ-loop
 start-requires c κs = search needs
 
+sub-left : tie.Need-sub-left Inv-loop μ-loop
+sub-left c = search needs
+
 loop-holds : tie.Need-loop-holds Inv-loop μ-loop
 loop-holds c = search needs
 
-sub-play : tie.Need-sub-play Inv-loop μ-loop
-sub-play c = search needs
+sub-read : tie.Need-sub-read Inv-loop μ-loop
+sub-read c = search needs
 
-add-play : tie.Need-add-play Inv-loop μ-loop
-add-play c = search needs
-
-play-requires : tie.Need-play-requires Inv-loop μ-loop
-play-requires c κs = search needs
+read-requires : tie.Need-read-requires Inv-loop μ-loop
+read-requires c κs = search needs
 
 returns : tie.Need-returns Inv-loop μ-loop
 returns c = search needs
 
-sub-left : tie.Need-sub-left Inv-loop μ-loop
-sub-left c = search needs
+sub-left-2 : tie.Need-sub-left-2 Inv-loop μ-loop
+sub-left-2 c = search needs
 
 loop-less : tie.Need-loop-less Inv-loop μ-loop
 loop-less c = search needs
@@ -51,12 +51,12 @@ deck-spec =
     μ-loop
     initial-requires
     start-requires
-    loop-holds
-    sub-play
-    add-play
-    play-requires
-    returns
     sub-left
+    loop-holds
+    sub-read
+    read-requires
+    returns
+    sub-left-2
     loop-less
     loop-again
     returns-2)
