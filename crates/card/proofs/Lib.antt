@@ -1,2 +1,5 @@
 pub mod Cards
+pub mod Elements
+pub mod Found
 pub mod Lending
+pub mod Probing

@@ -3,6 +3,7 @@ use machine::Machine;
 use walk::Numbers;
 
 pub mod lent;
+mod probe;
 pub mod value;
 
 // What a card's step gives beside memory: the four numbers and the machine afterwards.

@@ -16,14 +16,14 @@ ghost use Rattle.walk.specs.Translate as walking;
 ghost use Rattle.card.specs.Card as spec;
 
 // A byte as a number.
-fn wide(byte: u8) -> u64
+pub(crate) fn wide(byte: u8) -> u64
     ensures { λ r. ⌜ r ≡ byte ⌝ }
 {
     byte as u64
 }
 
 // The number in the eight bytes of a card at an offset.
-fn number_at(card: &[u8], at: usize) -> u64
+pub(crate) fn number_at(card: &[u8], at: usize) -> u64
     requires { ⌜ at + 8 ≤ length (now card) ⌝ }
     ensures { λ r. ⌜ r ≡ load 8 (now (card .entry)) at ⌝ }
 {
