@@ -68,17 +68,7 @@ fn translate(
     if !settings.paging() {
         return unpaged(address);
     }
-    let disabled = u64::from(!settings.no_execute()) << 63;
-    let descent = Descent {
-        address,
-        bad: ((1 << 52) - (1 << settings.width)) | disabled,
-        needed: needed(settings, access, mode),
-        fault: fault_bits(settings, access, mode),
-        granted: GRANTS,
-        path: [(0, 0); 4],
-    };
-    let (Ok(answer) | Err(answer)) = descent.run(settings.root(), access == WRITE, memory);
-    answer
+    Descent::new(settings, address, access, mode).run(settings.root(), memory)
 }
 
 /// The granting bits that the access needs in every entry.
@@ -98,16 +88,51 @@ fn fault_bits(settings: &Settings, access: u64, mode: u64) -> u64 {
 }
 
 /// What a walk carries down: the question's numbers and the path so far.
-struct Descent {
+pub struct Descent {
     address: u64,
     bad: u64,
     needed: u64,
+    write: bool,
     fault: u64,
     granted: u64,
     path: [(usize, u64); 4],
 }
 
 impl Descent {
+    /// The descent before its first entry, for a question that passed the tests.
+    #[inline(always)]
+    pub fn new(settings: &Settings, address: u64, access: u64, mode: u64) -> Descent {
+        let disabled = u64::from(!settings.no_execute()) << 63;
+        Descent {
+            address,
+            bad: ((1 << 52) - (1 << settings.width)) | disabled,
+            needed: needed(settings, access, mode),
+            write: access == WRITE,
+            fault: fault_bits(settings, access, mode),
+            granted: GRANTS,
+            path: [(0, 0); 4],
+        }
+    }
+
+    /// The answer of the walk from the root down; a success marks the entries in memory.
+    #[inline(always)]
+    pub fn run(&mut self, root: u64, memory: &mut [u8]) -> Answer {
+        let (Ok(answer) | Err(answer)) = self.read_down(root, memory);
+        answer
+    }
+
+    /// Whether all entries read grant what the bit says, XD turned over.
+    #[inline(always)]
+    pub fn grants(&self, bit: u64) -> bool {
+        self.granted & bit != 0
+    }
+
+    /// The entry of the level as it was read.
+    #[inline(always)]
+    pub fn entry(&self, level: u64) -> u64 {
+        self.path[4 - level as usize].1
+    }
+
     /// Reads the entry of the level in a table; gives the entry, or the refusal it meets.
     #[inline(always)]
     fn read(&mut self, memory: &[u8], table: u64, level: u64) -> Result<u64, Answer> {
@@ -133,31 +158,31 @@ impl Descent {
 
     /// The answer at the page that ends the walk; a success marks the entries.
     #[inline(always)]
-    fn finish(&self, memory: &mut [u8], entry: u64, level: u64, write: bool) -> Answer {
+    fn finish(&self, memory: &mut [u8], entry: u64, level: u64) -> Answer {
         let path = &self.path[..5 - level as usize];
         if self.granted & self.needed != self.needed {
             let lacking = lacking(path, self.needed);
             return given(Answer::FAULT, self.fault | 1, lacking, 5 - level);
         }
-        mark(path, write, memory);
+        mark(path, self.write, memory);
         let offset = (1 << walk::shift(level)) - 1;
         let value = entry & walk::FRAME & !offset | self.address & offset;
         given(Answer::DONE, value, level, 5 - level)
     }
 
-    /// The answer of the walk from the root down.
+    /// The answer of the walk, or the refusal that ends it early.
     #[inline(always)]
-    fn run(mut self, root: u64, write: bool, memory: &mut [u8]) -> Result<Answer, Answer> {
+    fn read_down(&mut self, root: u64, memory: &mut [u8]) -> Result<Answer, Answer> {
         let mut table = self.read(memory, root, 4)? & walk::FRAME;
         for level in [3, 2] {
             let entry = self.read(memory, table, level)?;
             if entry & walk::LARGE != 0 {
-                return Ok(self.finish(memory, entry, level, write));
+                return Ok(self.finish(memory, entry, level));
             }
             table = entry & walk::FRAME;
         }
         let entry = self.read(memory, table, 1)?;
-        Ok(self.finish(memory, entry, 1, write))
+        Ok(self.finish(memory, entry, 1))
     }
 }
 

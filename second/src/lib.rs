@@ -13,6 +13,7 @@ pub mod deck_tally;
 pub mod draw;
 pub mod draw_card;
 pub mod fast;
+pub mod fast_cache;
 pub mod host;
 pub mod machine;
 pub mod random;

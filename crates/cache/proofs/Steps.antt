@@ -6,6 +6,7 @@ use native.Mathlib.Omega.{arith}
 use mathlib.Core.Path.{_≡_, refl, sym, ap, _∙_}
 use mathlib.Core.Bool.{Bool, true, false, _&&_}
 use mathlib.Core.List.{List, [], _∷_, _++_, append-nil, append-assoc}
+use borrow.Author.Tests.{ne-eqb}
 use lib.ListN.{length, getD, set, drop, length-append, drop-of-length-le, List·getD-append}
 use lib.Seq.{drop-cons, getD-at, set-at}
 use Rattle.cache.specs.declared.Place.{Place}
@@ -116,6 +117,39 @@ pub look-miss : (i : ℕ) (w : Wanted) (s : Set) (k : ℕ) → k < 4 → {filled
     → filled ≡ filledIn i (at k s) → serving ≡ serves w (at k s) → (filled && serving) ≡ false → foundFrom i w s k ≡ foundFrom i w s (k + 1)
 look-miss i w s k h {filled} {serving} a b t =
     rw (add-one k) (look i w s k h ∙ miss w (at k s) _ (filledIn i (at k s)) serving b (ap (λ (f : Bool). f && serving) (sym a) ∙ t))
+
+-- a place of another tag does not serve
+other-tag : (w : Wanted) (p : Place) → (p .tag ≡ w .tag → ⊥) → serves w p ≡ false
+unfolding serves
+other-tag w p h = rw (ne-eqb (p .tag) (w .tag) h)
+
+and-false : (b : Bool) → (b && false) ≡ false
+and-false true = refl
+and-false false = refl
+
+-- a lookup may start at a number with no place of the tag before it
+pub from-later : (i : ℕ) (w : Wanted) (s : Set) (n : ℕ) → n < 4 → ((k : ℕ) → k < n → at k s .tag ≡ w .tag → ⊥)
+    → findIn i w s ≡ foundFrom i w s n
+from-later i w s zero h before = from-first i w s
+from-later i w s (suc n) h before =
+    from-later i w s n (omega arith) (λ k small. before k (omega arith))
+    ∙ look-miss i w s n (omega arith) refl (sym (other-tag w (at n s) (before n (omega arith)))) (and-false (filledIn i (at n s))) ∙ rw (add-one n)
+
+-- what holds of the first numbers holds of each below the next
+pub none-before : (P : ℕ → Type 0) (k : ℕ) → k < 0 → P k
+none-before P k h = absurd (omega arith)
+
+pub one-before : (P : ℕ → Type 0) → P 0 → (k : ℕ) → k < 1 → P k
+one-before P a zero h = a
+one-before P a (suc k) h = absurd (omega arith)
+
+pub two-before : (P : ℕ → Type 0) → P 0 → P 1 → (k : ℕ) → k < 2 → P k
+two-before P a b zero h = a
+two-before P a b (suc k) h = one-before (λ n. P (suc n)) b k (omega arith)
+
+pub three-before : (P : ℕ → Type 0) → P 0 → P 1 → P 2 → (k : ℕ) → k < 3 → P k
+three-before P a b c zero h = a
+three-before P a b c (suc k) h = two-before (λ n. P (suc n)) b c k (omega arith)
 
 -- there are as many sets below a number as it says
 pub setsBelow-length : (n : ℕ) (f : ℕ → Set) → length (setsBelow n f) ≡ n

@@ -3,7 +3,10 @@ use crate::Found;
 use crate::Place;
 use crate::Set;
 use crate::Wanted;
+ghost use Prim.Native.Nat.{ℕ, _<_, _≤_};
 ghost use mathlib.Core.Path.{_≡_};
+ghost use lib.ListN.{getD};
+ghost use Rattle.cache.specs.Places.{zeroPlace};
 ghost use Rattle.cache.specs.Sets as spec;
 
 impl Set {
@@ -50,11 +53,30 @@ impl Set {
             .pick(first, a)
     }
 
+    // A place's number with no place of the tag before it: the first one of the tag, or the last place.
+    fn first_of(self, tag: u64) -> usize
+        ensures { λ r. ⌜ (r ≤ 3) × ((k : ℕ) → k < r → getD (self .places) k zeroPlace .tag ≡ tag → ⊥) ⌝ }
+    {
+        let a = self.places[0];
+        let b = self.places[1];
+        let c = self.places[2];
+        if a.tag == tag {
+            return 0;
+        }
+        if b.tag == tag {
+            return 1;
+        }
+        if c.tag == tag {
+            return 2;
+        }
+        3
+    }
+
     // The first filled place that serves.
     pub fn find(self, set: u64, wanted: Wanted) -> Found
         ensures { λ r. ⌜ r ≡ spec.findIn set wanted self ⌝ }
     {
-        for k in 0..4 {
+        for k in self.first_of(wanted.tag)..4 {
             let place = self.places[k];
             let filled = place.filled_in(set);
             let serves = place.serves(wanted);

@@ -1,10 +1,11 @@
-//! Times the product's uncached walk beside a fast one of this program.
+//! Times the product's uncached walk and its remembered translations beside fast ones of this program.
 
 use std::hint::black_box;
 use std::time::Instant;
 
 use second::case::store;
 use second::fast::fast_walk;
+use second::fast_cache::{self, fast_translations, Translations};
 use second::host::{call, HostWalk, Question};
 use second::random::Random;
 use second::settings::Settings;
@@ -26,11 +27,28 @@ extern "C" {
         answer: *mut u8,
         answer_length: usize,
     ) -> u64;
+
+    /// A loop of the product's remembered translations by value.
+    fn timing_translations(
+        cr0: u64,
+        cr3: u64,
+        cr4: u64,
+        efer: u64,
+        width: u64,
+        access: u64,
+        mode: u64,
+        turns: u64,
+        addresses: *const u8,
+        addresses_length: usize,
+        memory: *mut u8,
+        memory_length: usize,
+    ) -> u64;
 }
 
 const QUESTIONS: usize = 64;
 const REPEATS: usize = 16;
 const ROUNDS: usize = 1000;
+const TURNS: u64 = 1 << 14;
 const SETTINGS: Settings = Settings {
     cr0: 0x8001_0001,
     cr3: 0x1000,
@@ -147,14 +165,32 @@ fn time(walk: HostWalk, questions: &[Question], memory: &mut [u8]) -> f64 {
     start.elapsed().as_nanos() as f64 / (REPEATS * questions.len()) as f64
 }
 
+/// 64 pages of which four fall into each set, so that all are held.
+fn held_pages() -> Vec<u8> {
+    let address = |page: u64| page << 12 | page * 61 % 4096;
+    (0..64)
+        .flat_map(|page| address(page).to_le_bytes())
+        .collect()
+}
+
+/// 64 pages of four sets, so that each falls out before it is asked for again.
+fn lost_pages() -> Vec<u8> {
+    let address = |page: u64| page << 21 | page % 4 << 12 | page * 61 % 4096;
+    (0..64)
+        .flat_map(|page| address(page).to_le_bytes())
+        .collect()
+}
+
+/// Prints a line: the name, both best times and their ratio.
+fn print(name: &str, [first, second]: [f64; 2]) {
+    let ratio = first / second;
+    println!("{name:20} {first:9.2} {second:9.2} {ratio:6.2}");
+}
+
 /// Prints nanoseconds of both walks and their ratio, for each kind.
-fn main() {
+fn walks() {
     let mut random = Random::new(3);
     let walks: [HostWalk; 2] = black_box([aalbrett_walk, fast_walk]);
-    println!(
-        "{:20} {:>9} {:>9} {:>6}",
-        "ns", "aalbrett", "second", "ratio"
-    );
     for kind in &KINDS {
         let mut memory = memory();
         let questions = questions(&mut random, kind);
@@ -167,8 +203,47 @@ fn main() {
                 *best = best.min(time(*walk, &questions, &mut memory));
             }
         }
-        let [first, second] = best;
-        let ratio = first / second;
-        println!("{:20} {first:9.2} {second:9.2} {ratio:6.2}", kind.name);
+        print(kind.name, best);
     }
+}
+
+/// Prints nanoseconds of both loops of one kind of translation and their ratio.
+fn translations(name: &str, asked: (u64, u64), addresses: &[u8]) {
+    let loops: [Translations; 2] = black_box([timing_translations, fast_translations]);
+    let sums = loops.map(|turn| {
+        let mut memory = memory();
+        let sum = fast_cache::call(turn, &SETTINGS, asked, 100, addresses, &mut memory);
+        (sum, memory)
+    });
+    assert_eq!(sums[0], sums[1], "{name}");
+    let mut memory = memory();
+    let mut best = [f64::MAX; 2];
+    for _ in 0..ROUNDS {
+        for (turn, best) in loops.iter().zip(&mut best) {
+            let start = Instant::now();
+            black_box(fast_cache::call(
+                *turn,
+                &SETTINGS,
+                asked,
+                TURNS,
+                addresses,
+                &mut memory,
+            ));
+            *best = best.min(start.elapsed().as_nanos() as f64 / TURNS as f64);
+        }
+    }
+    print(name, best);
+}
+
+/// Prints nanoseconds and ratios of walks, and of translations by value in a loop.
+fn main() {
+    println!(
+        "{:20} {:>9} {:>9} {:>6}",
+        "ns", "aalbrett", "second", "ratio"
+    );
+    walks();
+    translations("hit, read", (READ, USER), &held_pages());
+    translations("hit, write", (WRITE, USER), &held_pages());
+    translations("fill, read", (READ, USER), &lost_pages());
+    translations("fill, write", (WRITE, USER), &lost_pages());
 }

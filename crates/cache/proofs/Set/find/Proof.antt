@@ -1,5 +1,5 @@
 -- `Set::find` meets its contract.
-use Rattle.cache.proofs.Steps.{foundFrom, from-first, at-end, look-hit, look-miss}
+use Rattle.cache.proofs.Steps.{foundFrom, from-later, at-end, look-hit, look-miss}
 use Rattle.cache.specs.Sets.{findIn}
 use mathlib.Core.Path.{_≡_, sym, _∙_}
 use borrow.Author.Needs.{needs}
@@ -15,7 +15,15 @@ abbrev μ-loop : tie.MeasureT-loop
 μ-loop set wanted self k₀ k = 4 - k
 
 loop-holds : tie.Need-loop-holds Inv-loop μ-loop
-loop-holds c = (omega arith, from-first (c .args .set) (c .args .wanted) (c .args .t1))
+loop-holds c =
+    let a = c .before .args in
+    let small : c .first-of .result < 4 = omega arith in (
+      omega arith,
+      from-later (a .set) (a .wanted) (a .t1) (c .first-of .result) small (c .first-of .ensures .1),
+    )
+
+first-of-requires : tie.Need-first-of-requires Inv-loop μ-loop
+first-of-requires c κs = search needs
 
 mul-place : tie.Need-mul-place Inv-loop μ-loop
 mul-place c = search needs
@@ -32,7 +40,7 @@ serves-requires c κs = search needs
 returns : tie.Need-returns Inv-loop μ-loop
 returns c =
     let d = c .before .before .before .before .before in
-    let a = d .before .args in
+    let a = d .before .before .args in
     let small : d .loop .k < 4 = omega arith in
     sym
     (d .loop .inv .1
@@ -47,7 +55,7 @@ loop-less c = search needs
 loop-again : tie.Need-loop-again Inv-loop μ-loop
 loop-again c =
     let d = c .before .before .before .before .before in
-    let a = d .before .args in
+    let a = d .before .before .args in
     let small : d .loop .k < 4 = omega arith in (
       omega arith,
       d .loop .inv .1
@@ -56,7 +64,7 @@ loop-again c =
 
 returns-2 : tie.Need-returns-2 Inv-loop μ-loop
 returns-2 c =
-    let a = c .before .before .args in
+    let a = c .before .before .before .args in
     sym (c .before .loop .inv .1 ∙ at-end (a .set) (a .wanted) (a .t1) (c .before .loop .k) (omega arith))
 
 pub find-spec : {M : Type 1} → statement M
@@ -65,6 +73,7 @@ find-spec =
     (tie.spec
     Inv-loop
     μ-loop
+    first-of-requires
     loop-holds
     mul-place
     element-copy-out-place
