@@ -1,8 +1,4 @@
-// The calls on a machine that the host keeps, by value.
-use crate::SHORT;
-use crate::buffer;
-use crate::buffer::write;
-use card::value;
+// The start of a machine that the host keeps, by value.
 use machine::Machine;
 use settings::Settings;
 use walk::translate::numbers;
@@ -11,7 +7,7 @@ ghost use Rattle.machine.specs.Calls.{started};
 ghost use Rattle.aalbrett.specs.Host.{registers};
 ghost use Rattle.aalbrett.specs.Kept as spec;
 
-// What a call gives beside memory and buffer: the answer's number and the machine afterwards.
+// What a start gives: the answer's number and the machine.
 pub struct Kept {
     pub number: u64,
     pub machine: Machine,
@@ -34,25 +30,5 @@ pub(crate) fn start(cr0: u64, cr3: u64, cr4: u64, efer: u64, width: u64) -> Kept
     Kept {
         number: told.answer,
         machine,
-    }
-}
-
-// One card's step, its four numbers written to the buffer.
-pub(crate) fn step(machine: Machine, memory: &mut [u8], card: &[u8], answer: &mut [u8]) -> Kept
-    ensures { λ r. ⌜ (r .number ≡ spec.stepNumber machine (now (memory .entry)) (now (card .entry)) (now (answer .entry))) × (r .machine ≡ spec.machineAfter machine (now (memory .entry)) (now (card .entry)) (now (answer .entry))) × (now (memory .exit) ≡ spec.memoryAfter machine (now (memory .entry)) (now (card .entry)) (now (answer .entry))) × (now (answer .exit) ≡ spec.bufferAfter machine (now (memory .entry)) (now (card .entry)) (now (answer .entry))) ⌝ }
-{
-    if answer.len() < buffer::SIZE {
-        return Kept {
-            number: SHORT,
-            machine,
-        };
-    }
-    let turn = value::step(machine, memory, card);
-    let told = turn.numbers;
-    write(answer, told);
-    let next = turn.machine;
-    Kept {
-        number: told.answer,
-        machine: next,
     }
 }

@@ -1,6 +1,7 @@
 // The host's entries: numbers, a lent machine, lent guest memory and a lent answer buffer.
 use crate::buffer::write;
 use address::VirtAddr;
+use card::lent::step;
 use machine::Machine;
 use settings::Settings;
 use walk::translate::numbers;
@@ -75,7 +76,10 @@ pub extern "C" fn aalbrett_step(
 ) -> u64
     ensures { λ r. ⌜ (r ≡ after.stepNumber (now (machine .entry)) (now (memory .entry)) (now (card .entry)) (now (answer .entry))) × (now (machine .exit) ≡ after.machineAfter (now (machine .entry)) (now (memory .entry)) (now (card .entry)) (now (answer .entry))) × (now (memory .exit) ≡ after.memoryAfter (now (machine .entry)) (now (memory .entry)) (now (card .entry)) (now (answer .entry))) × (now (answer .exit) ≡ after.bufferAfter (now (machine .entry)) (now (memory .entry)) (now (card .entry)) (now (answer .entry))) ⌝ }
 {
-    let stepped = kept::step(*machine, memory, card, answer);
-    *machine = stepped.machine;
-    stepped.number
+    if answer.len() < buffer::SIZE {
+        return SHORT;
+    }
+    let told = step(machine, memory, card);
+    write(answer, told);
+    told.answer
 }

@@ -13,7 +13,6 @@ use Rattle.address.specs.Address.{tag}
 use Rattle.settings.proofs.Settings as Q
 use Rattle.settings.proofs.Settings.Laws as Q′
 use Rattle.cache.specs.declared.Set.{Set}
-use Rattle.cache.specs.Places.{setIndex}
 use Rattle.cache.specs.Whole.{setAt}
 use Rattle.cache.proofs.Set as P
 use Rattle.cache.proofs.Set.Laws as P′

@@ -2,4 +2,5 @@ pub mod Cards
 pub mod Elements
 pub mod Found
 pub mod Lending
+pub mod Locals
 pub mod Probing

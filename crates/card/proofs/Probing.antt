@@ -1,5 +1,5 @@
 -- A card that the set of its page answers is stepped with nothing changed.
-use Prim.Native.Nat.{ℕ, _<_}
+use Prim.Native.Nat.{ℕ}
 use mathlib.Core.Path.{_≡_, refl, ap, _∙_, sym}
 use mathlib.Core.Bool.{Bool, true, false, cond}
 use mathlib.Core.List.{List}
@@ -11,9 +11,7 @@ use Rattle.address.specs.declared.VirtAddr.{VirtAddr}
 use Rattle.address.specs.Address.{tag}
 use Rattle.walk.specs.declared.Access.{Access}
 use Rattle.walk.specs.declared.Answer.{Answer}
-use Rattle.walk.specs.declared.Numbers.{Numbers}
 use Rattle.walk.specs.Translate.{numbers, refusal}
-use Rattle.walk.proofs.Laws.{by-cases}
 use Rattle.cache.specs.declared.Set.{Set}
 use Rattle.cache.specs.Places.{setIndex}
 use Rattle.cache.specs.Whole.{setAt}
@@ -23,7 +21,7 @@ use Rattle.machine.specs.declared.Probed.the-variants.{Answered, Walk}
 use Rattle.machine.specs.Calls.{step, translated}
 use Rattle.machine.specs.Sets.{probed}
 use Rattle.machine.proofs.Setwise.{translate-answered}
-use Rattle.card.specs.Card.{kind, access, mode, address, callOf, called, told, stepped}
+use Rattle.card.specs.Card.{kind, access, mode, address, told, stepped}
 use Rattle.card.specs.Probe.{unseen, seenBy, setOf, seen}
 use Rattle.card.specs.declared.probe.Seen.{Seen}
 use Rattle.card.proofs.Cards.{Is, translates, whole}
@@ -85,7 +83,7 @@ module _ (m : Machine) (memory card : List ℕ) where
   translated-card size translation h =
       let same = set-whole card size (address card) refl (tag (record { 0 = address card })) refl (setIndex (tag (record { 0 = address card }))) refl in
       let is = probed-step (record { 0 = address card }) (access card) (mode card) (probed (m .settings) own (record { 0 = address card }) (access card) (mode card))
-            (ap (λ (i : ℕ). probed (m .settings) (setAt i (m .cache)) (record { 0 = address card }) (access card) (mode card)) same) h in
+      (ap (λ (i : ℕ). probed (m .settings) (setAt i (m .cache)) (record { 0 = address card }) (access card) (mode card)) same) h in
       whole m memory card (kind card) _ m memory size refl
       (translates m memory card (kind card) _ m memory (translated m memory (record { 0 = address card }) (access card) (mode card) .answer) (is .0) translation
       (address card) refl (access card) refl (mode card) refl refl (is .1) (is .2))
