@@ -2,6 +2,7 @@
 
 use crate::answer::Answer;
 use crate::cache::{set_of, Place};
+use crate::card::Card;
 use crate::fast::Descent;
 use crate::host;
 use crate::settings::Settings;
@@ -158,6 +159,48 @@ impl FastCache {
             drop_tag(set, number, tag);
         }
         answer
+    }
+}
+
+/// A machine that is stepped in place: settings and cache.
+pub struct FastMachine {
+    settings: Settings,
+    cache: FastCache,
+}
+
+impl FastMachine {
+    /// The machine with these settings that holds nothing.
+    pub fn start(settings: Settings) -> FastMachine {
+        FastMachine {
+            settings,
+            cache: FastCache::empty(),
+        }
+    }
+
+    /// The step of a card that translates: gives the answer's number, and writes its four to the buffer.
+    #[inline(never)]
+    pub fn step(&mut self, memory: &mut [u8], card: &[u8], buffer: &mut [u8]) -> u64 {
+        if buffer.len() < 32 {
+            return Answer::SHORT_BUFFER;
+        }
+        let Some(Card::Translate {
+            address,
+            access,
+            mode,
+        }) = Card::read(card)
+        else {
+            return Answer::UNKNOWN;
+        };
+        let settings = &self.settings;
+        let (access, mode) = (access.into(), mode.into());
+        let given = self
+            .cache
+            .translate(settings, address, access, mode, memory);
+        let numbers = [given.answer, given.value, given.detail, given.entries];
+        for (part, number) in buffer[..32].chunks_exact_mut(8).zip(numbers) {
+            part.copy_from_slice(&number.to_le_bytes());
+        }
+        given.answer
     }
 }
 

@@ -3,15 +3,37 @@
 use std::hint::black_box;
 use std::time::Instant;
 
+use second::card::{Card, CARD};
 use second::case::store;
 use second::fast::fast_walk;
-use second::fast_cache::{self, fast_translations, Translations};
+use second::fast_cache::{self, fast_translations, FastMachine, Translations};
 use second::host::{call, HostWalk, Question};
 use second::random::Random;
 use second::settings::Settings;
 use second::translate::{FETCH, READ, SUPERVISOR, USER, WRITE};
 
 extern "C" {
+    /// Starts the product's machine on a lent record.
+    fn aalbrett_start(
+        machine: *mut u64,
+        cr0: u64,
+        cr3: u64,
+        cr4: u64,
+        efer: u64,
+        width: u64,
+    ) -> u64;
+
+    /// One card's step of the product's machine, in place.
+    fn aalbrett_step(
+        machine: *mut u64,
+        memory: *mut u8,
+        memory_length: usize,
+        card: *const u8,
+        card_length: usize,
+        answer: *mut u8,
+        answer_length: usize,
+    ) -> u64;
+
     /// The product's uncached walk.
     fn aalbrett_walk(
         cr0: u64,
@@ -45,6 +67,9 @@ extern "C" {
     ) -> u64;
 }
 
+/// The machine's record in words of 8 bytes: five registers, 64 places of three words.
+const MACHINE: usize = 5 + 64 * 3;
+const STEPS: usize = 16;
 const QUESTIONS: usize = 64;
 const REPEATS: usize = 16;
 const ROUNDS: usize = 1000;
@@ -235,7 +260,76 @@ fn translations(name: &str, asked: (u64, u64), addresses: &[u8]) {
     print(name, best);
 }
 
-/// Prints nanoseconds and ratios of walks, and of translations by value in a loop.
+/// The cards that ask for each address of a list in one way.
+fn cards((access, mode): (u64, u64), addresses: &[u8]) -> Vec<[u8; CARD]> {
+    let card = |address: &[u8]| {
+        let mut bytes = [0; CARD];
+        let card = Card::Translate {
+            address: u64::from_le_bytes(address.try_into().unwrap_or_default()),
+            access: access as u8,
+            mode: mode as u8,
+        };
+        card.write(&mut bytes);
+        bytes
+    };
+    addresses.chunks_exact(8).map(card).collect()
+}
+
+/// One step of the product's machine on a record that this program owns.
+fn step(machine: &mut [u64; MACHINE], memory: &mut [u8], card: &[u8], answer: &mut [u8]) -> u64 {
+    // SAFETY: the record was started, and all four are lent for the call with their own lengths.
+    unsafe {
+        aalbrett_step(
+            machine.as_mut_ptr(),
+            memory.as_mut_ptr(),
+            memory.len(),
+            card.as_ptr(),
+            card.len(),
+            answer.as_mut_ptr(),
+            answer.len(),
+        )
+    }
+}
+
+/// Prints nanoseconds of a step in place of both machines and their ratio, for one kind of card.
+fn steps(name: &str, asked: (u64, u64), addresses: &[u8]) {
+    let cards = cards(asked, addresses);
+    let mut memory = memory();
+    let mut record = [0; MACHINE];
+    let Settings {
+        cr0,
+        cr3,
+        cr4,
+        efer,
+        width,
+    } = SETTINGS;
+    // SAFETY: the record has the machine's size and alignment.
+    unsafe { aalbrett_start(record.as_mut_ptr(), cr0, cr3, cr4, efer, width) };
+    let mut plain = FastMachine::start(SETTINGS);
+    let (mut ours, mut theirs) = ([0; 32], [0; 32]);
+    for card in &cards {
+        let number = step(&mut record, &mut memory, card, &mut ours);
+        assert_eq!(number, plain.step(&mut memory, card, &mut theirs), "{name}");
+        assert_eq!(ours, theirs, "{name}");
+    }
+    let count = (STEPS * cards.len()) as f64;
+    let mut best = [f64::MAX; 2];
+    for _ in 0..ROUNDS {
+        let start = Instant::now();
+        for card in (0..STEPS).flat_map(|_| &cards) {
+            black_box(step(&mut record, &mut memory, card, &mut ours));
+        }
+        best[0] = best[0].min(start.elapsed().as_nanos() as f64 / count);
+        let start = Instant::now();
+        for card in (0..STEPS).flat_map(|_| &cards) {
+            black_box(plain.step(&mut memory, card, &mut theirs));
+        }
+        best[1] = best[1].min(start.elapsed().as_nanos() as f64 / count);
+    }
+    print(name, best);
+}
+
+/// Prints nanoseconds and ratios of walks, of translations by value in a loop, and of steps in place.
 fn main() {
     println!(
         "{:20} {:>9} {:>9} {:>6}",
@@ -246,4 +340,7 @@ fn main() {
     translations("hit, write", (WRITE, USER), &held_pages());
     translations("fill, read", (READ, USER), &lost_pages());
     translations("fill, write", (WRITE, USER), &lost_pages());
+    steps("hit in place, read", (READ, USER), &held_pages());
+    steps("hit in place, write", (WRITE, USER), &held_pages());
+    steps("fill in place, read", (READ, USER), &lost_pages());
 }
