@@ -16,7 +16,6 @@
 #ifndef AALBRETT_H
 #define AALBRETT_H
 
-#include <stdbool.h>
 #include <stddef.h>
 #include <stdint.h>
 
@@ -53,6 +52,9 @@ extern "C" {
  *
  * They are tested in the order SHORT, CARD_SHORT, UNKNOWN, NOT_SERVED, FORM, and then OUTSIDE and
  * FAULT as the walk meets them.
+ *
+ * A physical address may lie outside the memory lent, since table entries and remembered places may
+ * name any. So a host tests that the bytes it wants are inside before it uses them.
  *
  * The error code's bits: 0 the entry was present, 1 write, 2 user, 3 reserved bit set, 4 fetch with
  * EFER.NXE = 1. For a fault of rights the level is the highest whose own entry lacks a needed right.
@@ -99,8 +101,7 @@ struct aalbrett_answer {
  *   answer                the answer buffer: answer_length bytes. The first 32 are written, on every
  *                         answer but SHORT; later ones stay as they are.
  *
- * Returns the answer's number. No numbers and no bytes are forbidden: each call returns, with an
- * answer.
+ * Returns the answer's number, whatever the numbers and the bytes are.
  *
  * memory after DONE: Accessed (bit 5) is set in every entry on the path, and for a write Dirty (bit 6)
  * in the last; not another bit is changed. After any other answer memory is as it was.
@@ -135,26 +136,28 @@ struct aalbrett_settings {
  * A remembered translation of one 4 KiB piece of a page.
  *
  * It counts only if marked, its tag is below 2^52 and belongs to its set, its frame is below 2^40 and
- * its size is 1 to 3; every other place reads as empty.
+ * its size is 1 to 3; every other place reads as empty. Its flags are the bits named below; the other
+ * two count for nothing.
  */
+#define AALBRETT_PLACE_WRITE 1u  /* the rights that all entries of its walk gave */
+#define AALBRETT_PLACE_USER 2u
+#define AALBRETT_PLACE_FETCH 4u
+#define AALBRETT_PLACE_DIRTY 8u  /* Dirty, as the walk left it */
+#define AALBRETT_PLACE_GLOBAL 16u /* a root load spares it */
+#define AALBRETT_PLACE_MARKED 32u
+
 struct aalbrett_place {
     uint64_t tag;   /* the virtual address divided by 4,096 */
     uint64_t frame; /* the physical address divided by 4,096 */
     uint8_t size;   /* 1, 2, 3: of a page of 4 KiB, 2 MiB, 1 GiB */
-    bool marked;
-    bool write; /* the rights that all entries of its walk gave */
-    bool user;
-    bool fetch;
-    bool dirty;  /* Dirty, as the walk left it */
-    bool global; /* a root load spares it */
+    uint8_t flags;
 };
 
 /*
  * A machine: its settings and what it remembers. A tag's set is its low 4 bits, and the place filled
- * last stands first. The host owns the record, may copy it, and may read it between calls.
+ * last stands first. The host owns the record, and may copy, read and write it between calls.
  *
- * Each bool must hold 0 or 1, as bools do; all other bits may be anything. So a record of zeros may be
- * lent, and one that was never written may not.
+ * Any bytes may be lent as a machine. One of zeros remembers nothing, and its settings are not served.
  */
 struct aalbrett_machine {
     struct aalbrett_settings settings;
@@ -206,8 +209,7 @@ struct aalbrett_card {
  *   memory, answer        as in aalbrett_walk.
  *   card                  the card: card_length bytes. Other than 32 are answered CARD_SHORT.
  *
- * Returns the answer's number. No card, no machine and no memory is forbidden: each call returns, with
- * an answer.
+ * Returns the answer's number, whatever the four hold.
  *
  * A translation is served from what the machine remembers, and reports 0 entries read, where the page
  * is remembered with the rights needed, and for a write with Dirty set. Otherwise it walks memory as

@@ -108,12 +108,18 @@ static void print_question(struct question q, struct settings s) {
     printf("%s %s 0x%" PRIx64 "%s: ", q.mode == USER ? "user" : "supervisor", access, q.address, s.name);
 }
 
+/* Whether a physical address is one of guest memory: a host asks before it uses it. */
+static bool inside(uint64_t address) {
+    return address < MEMORY_LENGTH;
+}
+
 /* Prints an answer. */
 static void print_answer(struct aalbrett_answer a) {
     static const char *const pages[] = {"paging off", "page of 4 KiB", "page of 2 MiB", "page of 1 GiB"};
     switch (a.answer) {
     case AALBRETT_DONE:
-        printf("physical 0x%" PRIx64 ", %s", a.value, a.detail < 4 ? pages[a.detail] : "?");
+        printf("physical 0x%" PRIx64 "%s, %s", a.value, inside(a.value) ? "" : " (not in memory)",
+               a.detail < 4 ? pages[a.detail] : "?");
         break;
     case AALBRETT_OUTSIDE:
         printf("table entry 0x%" PRIx64 " outside memory, level %" PRIu64, a.value, a.detail);

@@ -4,6 +4,7 @@
  * Prints each step and checks it. Exits with 1 where anything differs.
  */
 #include <inttypes.h>
+#include <stdbool.h>
 #include <stdio.h>
 #include <string.h>
 
@@ -19,12 +20,7 @@ _Static_assert(offsetof(struct aalbrett_machine, sets) == 40, "the sets");
 _Static_assert(sizeof(struct aalbrett_place) == 24, "the size of a place");
 _Static_assert(offsetof(struct aalbrett_place, frame) == 8, "a place's frame");
 _Static_assert(offsetof(struct aalbrett_place, size) == 16, "a place's size");
-_Static_assert(offsetof(struct aalbrett_place, marked) == 17, "a place's mark");
-_Static_assert(offsetof(struct aalbrett_place, write) == 18, "a place's R/W");
-_Static_assert(offsetof(struct aalbrett_place, user) == 19, "a place's U/S");
-_Static_assert(offsetof(struct aalbrett_place, fetch) == 20, "a place's fetch right");
-_Static_assert(offsetof(struct aalbrett_place, dirty) == 21, "a place's D");
-_Static_assert(offsetof(struct aalbrett_place, global) == 22, "a place's G");
+_Static_assert(offsetof(struct aalbrett_place, flags) == 17, "a place's flags");
 _Static_assert(sizeof(struct aalbrett_card) == 32, "the size of a card");
 _Static_assert(offsetof(struct aalbrett_card, address) == 8, "a card's address");
 _Static_assert(offsetof(struct aalbrett_card, value) == 16, "a card's value");
@@ -56,12 +52,18 @@ static void store(uint64_t at, uint64_t entry) {
     step((struct aalbrett_card){.kind = AALBRETT_CARD_STORE, .address = at, .value = entry});
 }
 
-/* A press: the driver writes its counter where the machine says that it lies. Gives the answer. */
+/* The byte of guest memory at a physical address; NULL where that lies outside. */
+static uint8_t *byte_at(uint64_t address) {
+    return address < sizeof memory ? &memory[address] : NULL;
+}
+
+/* A press: the driver writes its counter where the machine says that it lies, if that is inside. Gives the answer. */
 static struct aalbrett_answer press(void) {
     struct aalbrett_answer answer = step((struct aalbrett_card){
         .kind = AALBRETT_CARD_TRANSLATE, .access = AALBRETT_WRITE, .mode = AALBRETT_USER, .address = COUNTER});
-    if (answer.answer == AALBRETT_DONE && answer.value < sizeof memory) {
-        memory[answer.value]++;
+    uint8_t *count = answer.answer == AALBRETT_DONE ? byte_at(answer.value) : NULL;
+    if (count != NULL) {
+        ++*count;
     }
     return answer;
 }
@@ -83,10 +85,9 @@ static bool pressed(uint64_t page, uint64_t reads, uint8_t in_old, uint8_t in_ne
 static bool remembered(uint64_t frame) {
     uint64_t tag = COUNTER / PAGE_LENGTH;
     const struct aalbrett_place *place = &machine.sets[tag % 16][0];
-    bool held = place->marked && place->tag == tag;
-    bool right = held ? frame != 0 && place->frame == frame && place->size == 1 && place->write && place->user && place->fetch
-            && place->dirty && !place->global
-                      : frame == 0;
+    uint8_t flags = AALBRETT_PLACE_MARKED | AALBRETT_PLACE_WRITE | AALBRETT_PLACE_USER | AALBRETT_PLACE_FETCH | AALBRETT_PLACE_DIRTY;
+    bool held = (place->flags & AALBRETT_PLACE_MARKED) && place->tag == tag;
+    bool right = held ? frame != 0 && place->frame == frame && place->size == 1 && place->flags == flags : frame == 0;
     if (held) {
         printf("remembered: page 0x%" PRIx64 " in frame 0x%" PRIx64 "%s\n", tag, place->frame, right ? "" : " -- WRONG");
     } else {

@@ -5,24 +5,25 @@ use crate::translate::Rights;
 const SETS: u64 = 16;
 const PLACES: usize = 4;
 
-/// One remembered piece of 4 KiB.
+/// One remembered piece of 4 KiB; a flag is 0 or 1, and the two spare bits beside the flags count for nothing.
 #[derive(Clone, Copy, Debug, Default, PartialEq, Eq)]
 pub struct Place {
-    pub marked: bool,
+    pub marked: u8,
     pub tag: u64,
     pub frame: u64,
-    pub size: u64,
-    pub write: bool,
-    pub user: bool,
-    pub fetch: bool,
-    pub dirty: bool,
-    pub global: bool,
+    pub size: u8,
+    pub write: u8,
+    pub user: u8,
+    pub fetch: u8,
+    pub dirty: u8,
+    pub global: u8,
+    pub spare: u8,
 }
 
 impl Place {
     /// Whether the place counts as filled in the set of that number.
     pub fn filled(&self, set: u64) -> bool {
-        self.marked
+        self.marked != 0
             && self.tag < 1 << 52
             && self.tag % SETS == set
             && self.frame < 1 << 40
@@ -32,10 +33,15 @@ impl Place {
     /// The rights that the place holds.
     pub fn rights(&self) -> Rights {
         Rights {
-            write: self.write,
-            user: self.user,
-            fetch: self.fetch,
+            write: self.write != 0,
+            user: self.user != 0,
+            fetch: self.fetch != 0,
         }
+    }
+
+    /// Whether the place allows the access, with D where it is a write.
+    pub fn serves(&self, needed: Rights, write: bool) -> bool {
+        self.rights().allow(needed) && (self.dirty != 0 || !write)
     }
 }
 
@@ -64,7 +70,7 @@ impl Set {
     /// The set with the new place first and no other of its tag.
     fn fill(self, number: u64, new: Place) -> Set {
         let others = self.keep(number, |place| place.tag != new.tag);
-        let filled = others.places.into_iter().filter(|place| place.marked);
+        let filled = others.places.into_iter().filter(|place| place.marked != 0);
         Set::of([new].into_iter().chain(filled))
     }
 }
@@ -97,8 +103,8 @@ impl Cache {
 
     /// The first place with the tag that allows the access, and has D for a write.
     pub fn hit(&self, tag: u64, needed: Rights, write: bool) -> Option<&Place> {
-        let serves = |place: &&Place| place.rights().allow(needed) && (place.dirty || !write);
-        self.with_tag(tag).find(serves)
+        let mut places = self.with_tag(tag);
+        places.find(|place| place.serves(needed, write))
     }
 
     /// Puts a new place first in its set.
@@ -118,7 +124,7 @@ impl Cache {
     /// Drops all but G places.
     pub fn keep_global(&mut self) {
         for (number, set) in (0..).zip(&mut self.sets) {
-            *set = set.keep(number, |place| place.global);
+            *set = set.keep(number, |place| place.global != 0);
         }
     }
 }
@@ -137,7 +143,7 @@ mod tests {
     /// A filled place with the tag.
     fn place(tag: u64) -> Place {
         Place {
-            marked: true,
+            marked: 1,
             tag,
             frame: tag + 1,
             size: 1,
@@ -173,7 +179,7 @@ mod tests {
         let mut cache = Cache::empty();
         for tag in [0x13, 0x23, 0x33] {
             cache.fill(Place {
-                global: tag != 0x23,
+                global: u8::from(tag != 0x23),
                 ..place(tag)
             });
         }
@@ -187,10 +193,7 @@ mod tests {
     fn places_that_are_not_filled() {
         let good = place(0x13);
         let wrong = [
-            Place {
-                marked: false,
-                ..good
-            },
+            Place { marked: 0, ..good },
             Place { tag: 0x14, ..good },
             Place { size: 0, ..good },
             Place { size: 4, ..good },
@@ -220,7 +223,7 @@ mod tests {
     fn the_first_place_that_serves() {
         let mut cache = Cache::empty();
         let (clean, mut dirty) = (place(0x13), place(0x13));
-        (dirty.dirty, dirty.frame) = (true, 9);
+        (dirty.dirty, dirty.frame) = (2, 9);
         cache.sets[3].places = [clean, dirty, clean, clean];
         let frame = |write| cache.hit(0x13, NOTHING, write).map(|place| place.frame);
         assert_eq!((frame(false), frame(true)), (Some(0x14), Some(9)));

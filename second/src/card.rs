@@ -38,9 +38,9 @@ pub enum Card {
 }
 
 impl Card {
-    /// The card of these bytes, or nothing if they are too few.
+    /// The card of these bytes, or nothing if they are not 32.
     pub fn read(bytes: &[u8]) -> Option<Card> {
-        let bytes: &[u8; CARD] = bytes.get(..CARD)?.try_into().ok()?;
+        let bytes: &[u8; CARD] = bytes.try_into().ok()?;
         let (address, value) = (number(bytes, 8), number(bytes, 16));
         let card = match bytes[0] {
             0 => Card::Translate {

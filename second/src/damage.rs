@@ -159,7 +159,7 @@ fn cut_memory(random: &mut Random, case: &mut Case) {
 }
 
 /// Breaks one of the rules of served settings.
-fn unserved(random: &mut Random, settings: &mut Settings) {
+pub fn unserved(random: &mut Random, settings: &mut Settings) {
     match random.below(12) {
         0..=2 => settings.width = random.pick(&WIDTHS),
         3 => settings.cr3 |= 1 << random.between(settings.width.min(63), 63),

@@ -73,7 +73,7 @@ fn rows(
     match *card {
         Card::Unknown { .. } => rows = vec!["unknown kind".into()],
         Card::LoadRoot { .. } if answer.answer == Answer::DONE => {
-            let kept = after.cache.sets.iter().any(|set| set.places[0].marked);
+            let kept = after.cache.sets.iter().any(|set| set.places[0].marked != 0);
             rows.extend(kept.then(|| "root load kept a place".into()));
         }
         Card::DropPage { address } if !canonical(address) => {
@@ -116,7 +116,7 @@ fn translation_rows(
         add(held && outside, "outside dropped a place");
     } else if answer.entries > 0 {
         let set = &before.cache.sets[set_of(tag) as usize];
-        let full = set.places.iter().all(|place| place.marked);
+        let full = set.places.iter().all(|place| place.marked != 0);
         add(full && !held, "a fifth place fell out");
         add(held, "walk over a place of the page");
     } else if answer.detail > 0 {

@@ -64,7 +64,7 @@ fn sound(random: &mut Random, reach: Reach) -> Case {
 }
 
 /// Served settings with paging on, every bit that is not tested at random.
-fn served(random: &mut Random) -> Settings {
+pub fn served(random: &mut Random) -> Settings {
     let (zero, one) = (random.pick(&[0, u64::MAX]), random.word());
     let noise = |random: &mut Random| random.pick(&[zero, one, 0, 0]);
     let width = match random.below(4) {

@@ -106,8 +106,14 @@ pub fn translation(random: &mut Random, pages: &[u64]) -> Card {
     }
 }
 
-/// A store into an entry: its usual value, with another frame or with bits turned over.
+/// A store into an entry that suits it more or less.
 pub fn table_store(random: &mut Random, address: u64, usual: u64) -> Card {
+    let (address, value) = table_entry(random, address, usual);
+    Card::Store { address, value }
+}
+
+/// An entry's address, now and then shifted, and its usual value, with another frame or with bits turned over.
+pub fn table_entry(random: &mut Random, address: u64, usual: u64) -> (u64, u64) {
     let bit = random.pick(&BITS);
     let frame = random.between(1, 10) << 12;
     let value = match random.below(8) {
@@ -117,10 +123,7 @@ pub fn table_store(random: &mut Random, address: u64, usual: u64) -> Card {
         _ => usual & 0xFFF | frame | bit,
     };
     let shift = if random.chance(6) { random.below(8) } else { 0 };
-    Card::Store {
-        address: address + shift,
-        value,
-    }
+    (address + shift, value)
 }
 
 /// A store at the end of memory or beyond it.

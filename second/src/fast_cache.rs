@@ -135,7 +135,7 @@ impl FastCache {
             return Answer {
                 answer: Answer::DONE,
                 value: place.frame << 12 | address & 0xFFF,
-                detail: place.size,
+                detail: place.size.into(),
                 entries: 0,
             };
         }
@@ -144,15 +144,16 @@ impl FastCache {
         if answer.answer == Answer::DONE {
             let last = descent.entry(answer.detail);
             let new = Place {
-                marked: true,
+                marked: 1,
                 tag,
                 frame: answer.value >> 12,
-                size: answer.detail,
-                write: descent.grants(walk::WRITABLE),
-                user: descent.grants(walk::USER),
-                fetch: descent.grants(walk::EXECUTE_DISABLE),
-                dirty: access == WRITE || last & walk::DIRTY != 0,
-                global: settings.global_pages() && last & walk::GLOBAL != 0,
+                size: answer.detail as u8,
+                write: descent.grants(walk::WRITABLE).into(),
+                user: descent.grants(walk::USER).into(),
+                fetch: descent.grants(walk::EXECUTE_DISABLE).into(),
+                dirty: (access == WRITE || last & walk::DIRTY != 0).into(),
+                global: (settings.global_pages() && last & walk::GLOBAL != 0).into(),
+                spare: 0,
             };
             fill(set, number, new);
         } else {
@@ -207,12 +208,8 @@ impl FastMachine {
 /// The first filled place with the tag that allows the access, and has D for a write.
 #[inline(always)]
 fn hit(set: &[Place; 4], number: u64, tag: u64, needed: Rights, write: bool) -> Option<&Place> {
-    set.iter().find(|place| {
-        place.tag == tag
-            && place.filled(number)
-            && place.rights().allow(needed)
-            && (place.dirty || !write)
-    })
+    set.iter()
+        .find(|place| place.tag == tag && place.filled(number) && place.serves(needed, write))
 }
 
 /// Puts the new place first, without the others of its tag, gaps closed; mostly there is none to close.

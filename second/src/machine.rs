@@ -40,7 +40,7 @@ impl Machine {
             return Answer {
                 answer: Answer::DONE,
                 value: place.frame << 12 | address & 0xFFF,
-                detail: place.size,
+                detail: place.size.into(),
                 entries: 0,
             };
         }
@@ -59,15 +59,16 @@ impl Machine {
         let rights = Rights::combined(&walk.steps);
         let last = walk.steps[walk.steps.len() - 1].entry;
         Place {
-            marked: true,
+            marked: 1,
             tag,
             frame: answer.value >> 12,
-            size: answer.detail,
-            write: rights.write,
-            user: rights.user,
-            fetch: rights.fetch,
-            dirty: write || last & DIRTY != 0,
-            global: self.settings.global_pages() && last & GLOBAL != 0,
+            size: answer.detail as u8,
+            write: rights.write.into(),
+            user: rights.user.into(),
+            fetch: rights.fetch.into(),
+            dirty: (write || last & DIRTY != 0).into(),
+            global: (self.settings.global_pages() && last & GLOBAL != 0).into(),
+            spare: 0,
         }
     }
 

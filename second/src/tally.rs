@@ -124,7 +124,7 @@ pub fn rows(case: &Case, memory: &[u8], answer: &Answer) -> Vec<String> {
 }
 
 /// Adds each rule of served settings that is broken.
-fn settings_rows(settings: &Settings, rows: &mut Vec<String>) {
+pub fn settings_rows(settings: &Settings, rows: &mut Vec<String>) {
     let mut add = |broken: bool, row: &str| rows.extend(broken.then(|| format!("settings {row}")));
     add(settings.width < 32, "width below 32");
     add(settings.width > 52, "width above 52");

@@ -1,2 +1,3 @@
 pub mod Bytes
+pub mod Demand1
 pub mod Laws

@@ -1,5 +1,6 @@
 -- The host's call: "The host calls the uncached walk with numbers, guest memory and an answer buffer."
 use Prim.Native.Nat.{ℕ}
+use mathlib.Core.Path.{_≡_}
 use mathlib.Core.Bool.{Bool, cond}
 use mathlib.Core.List.{List}
 use lib.Dec.{ltb}
@@ -24,12 +25,12 @@ registers cr0 cr3 cr4 efer width = record { cr0 = cr0; cr3 = cr3; cr4 = cr4; efe
 -- what the host hands over, in the order of its call
 module _ (cr0 cr3 cr4 efer width address access mode : ℕ) (memory buffer : List ℕ) where
   -- the four numbers of one uncached translation
-  abbrev pub told : Numbers
-  told = numbers (translated (registers cr0 cr3 cr4 efer width) (record { 0 = address }) access mode memory)
+  abbrev pub answerNumbers : Numbers
+  answerNumbers = numbers (translated (registers cr0 cr3 cr4 efer width) (record { 0 = address }) access mode memory)
 
   -- the result: "Below 32 bytes the call gives 7 [..]; this is tested first. Otherwise it returns the answer"
   abbrev pub result : ℕ
-  result = cond (short buffer) 7 (told .answer)
+  result = cond (short buffer) 7 (answerNumbers .answer)
 
   -- guest memory after the call; for a short buffer "writes nothing"
   abbrev pub memoryAfter : List ℕ
@@ -37,4 +38,8 @@ module _ (cr0 cr3 cr4 efer width address access mode : ℕ) (memory buffer : Lis
 
   -- the answer buffer after the call; for a short buffer "writes nothing", else written "on refusals also"
   abbrev pub bufferAfter : List ℕ
-  bufferAfter = cond (short buffer) buffer (written told buffer)
+  bufferAfter = cond (short buffer) buffer (written answerNumbers buffer)
+
+  -- the result, and memory and buffer afterwards, are those of the call
+  abbrev pub Walks : ℕ → List ℕ → List ℕ → Type 0
+  Walks r memory′ buffer′ = (r ≡ result) × (memory′ ≡ memoryAfter) × (buffer′ ≡ bufferAfter)

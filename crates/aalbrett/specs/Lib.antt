@@ -1,2 +1,3 @@
+pub mod Demand1
 pub mod Host
-pub mod Kept
+pub mod Lent

@@ -1,18 +1,17 @@
 // The host's entries: numbers, a lent machine, lent guest memory and a lent answer buffer.
 use crate::buffer::write;
 use address::VirtAddr;
-use card::lent::step;
+use card::probe::step;
 use machine::Machine;
 use settings::Settings;
 use walk::translate::numbers;
 use walk::translate::translate;
 ghost use mathlib.Core.Path.{_≡_};
-ghost use Rattle.machine.specs.Calls.{started};
 ghost use Rattle.aalbrett.specs.Host as spec;
-ghost use Rattle.aalbrett.specs.Kept as after;
+ghost use Rattle.aalbrett.specs.Lent as after;
 
 mod buffer;
-mod kept;
+mod start;
 
 // The number answered where the answer buffer is short.
 const SHORT: u64 = 7;
@@ -31,7 +30,8 @@ pub extern "C" fn aalbrett_walk(
     memory: &mut [u8],
     answer: &mut [u8],
 ) -> u64
-    ensures { λ r. ⌜ (r ≡ spec.result cr0 cr3 cr4 efer width address access mode (now (memory .entry)) (now (answer .entry))) × (now (memory .exit) ≡ spec.memoryAfter cr0 cr3 cr4 efer width address access mode (now (memory .entry)) (now (answer .entry))) × (now (answer .exit) ≡ spec.bufferAfter cr0 cr3 cr4 efer width address access mode (now (memory .entry)) (now (answer .entry))) ⌝ }
+    ensures { λ r. ⌜ spec.Walks cr0 cr3 cr4 efer width address access mode (now (memory .entry)) (now (answer .entry))
+        r (now (memory .exit)) (now (answer .exit)) ⌝ }
 {
     if answer.len() < buffer::SIZE {
         return SHORT;
@@ -59,9 +59,9 @@ pub extern "C" fn aalbrett_start(
     efer: u64,
     width: u64,
 ) -> u64
-    ensures { λ r. ⌜ (r ≡ after.startNumber (spec.registers cr0 cr3 cr4 efer width)) × (now (machine .exit) ≡ started (spec.registers cr0 cr3 cr4 efer width)) ⌝ }
+    ensures { λ r. ⌜ after.Starts (spec.registers cr0 cr3 cr4 efer width) r (now (machine .exit)) ⌝ }
 {
-    let begun = kept::start(cr0, cr3, cr4, efer, width);
+    let begun = start::start(cr0, cr3, cr4, efer, width);
     *machine = begun.machine;
     begun.number
 }
@@ -74,7 +74,8 @@ pub extern "C" fn aalbrett_step(
     card: &[u8],
     answer: &mut [u8],
 ) -> u64
-    ensures { λ r. ⌜ (r ≡ after.stepNumber (now (machine .entry)) (now (memory .entry)) (now (card .entry)) (now (answer .entry))) × (now (machine .exit) ≡ after.machineAfter (now (machine .entry)) (now (memory .entry)) (now (card .entry)) (now (answer .entry))) × (now (memory .exit) ≡ after.memoryAfter (now (machine .entry)) (now (memory .entry)) (now (card .entry)) (now (answer .entry))) × (now (answer .exit) ≡ after.bufferAfter (now (machine .entry)) (now (memory .entry)) (now (card .entry)) (now (answer .entry))) ⌝ }
+    ensures { λ r. ⌜ after.Steps (now (machine .entry)) (now (memory .entry)) (now (card .entry)) (now (answer .entry))
+        r (now (machine .exit)) (now (memory .exit)) (now (answer .exit)) ⌝ }
 {
     if answer.len() < buffer::SIZE {
         return SHORT;

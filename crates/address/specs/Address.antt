@@ -35,14 +35,14 @@ tag a = a .0 / 4096
 abbrev pub entryAddress : PhysAddr → ℕ → PhysAddr
 entryAddress base i = record { 0 = (base .0 + 8 * i) % 2 ^ 64 }
 
--- base plus offset, in 64 bits
+-- base plus offset, in 64 bits; "Virtual addresses, physical addresses and frame numbers are kept apart": a sum by name
 abbrev pub plus : PhysAddr → ℕ → PhysAddr
 plus base by = record { 0 = (base .0 + by) % 2 ^ 64 }
 
--- the frame that holds an address
+-- the frame that holds an address: "kept apart", a change of kind by name
 abbrev pub frameOf : PhysAddr → Frame
 frameOf a = record { 0 = a .0 / 4096 }
 
--- the address at an offset in a frame, in 64 bits
+-- the address at an offset in a frame, in 64 bits: "kept apart", a change of kind by name
 abbrev pub inFrame : Frame → ℕ → PhysAddr
 inFrame f by = record { 0 = (f .0 * 4096 + by % 4096) % 2 ^ 64 }

@@ -4,27 +4,28 @@ use native.Mathlib.Decide.{decLt, ℕ-discrete}
 use native.Mathlib.Omega.{arith}
 use mathlib.Core.Path.{_≡_, refl, sym, ap, _∙_}
 use mathlib.Core.Bool.{Bool, true, false, not, _&&_}
-use mathlib.Core.List.{List, [], _∷_, List·Memᴰ}
+use mathlib.Core.List.{List, [], _∷_}
 use borrow.Author.Tests.{ltb-true, leb-true, eqb-true, lt-ltb, le-leb, eq-eqb, ne-eqb}
 use lib.Dec.{eqb, ltb, leb}
 use lib.ListN.{length, take, length-set, getD-replicate, List·getD-eq-default}
 use lib.Seq.{take-all, getD-set-same, getD-set-other}
+use Rattle.word.specs.Bits.{includes}
 use Rattle.cache.specs.declared.Place.{Place}
 use Rattle.cache.specs.declared.Set.{Set}
 use Rattle.cache.specs.declared.Cache.{Cache}
 use Rattle.cache.specs.declared.Wanted.{Wanted}
-use Rattle.cache.specs.declared.Found.the-variants.{At, Nothing}
-use Rattle.cache.specs.Places.{zeroPlace, setIndex, filledIn, otherTag, spares, stays, given, serves}
+use Rattle.cache.specs.declared.Found.{Found}
+use Rattle.cache.specs.Places.{isMarked, hasG, zeroPlace, setIndex, filledIn, otherTag, spares, stays, serves}
 use Rattle.cache.specs.Sets.{keep, four, setOf, emptySet, filled, firstServing, findIn, fillSet, dropSet, rootSet}
-use Rattle.cache.specs.Whole.{setAt, held, rewriteSet, rewriteAll, emptyCache, findCache, fillCache, dropPage, loadRoot}
+use Rattle.cache.specs.Whole.{setAt, held, rewriteSet, rewriteAll, emptyCache, fillCache, dropPage, loadRoot}
 use Rattle.cache.proofs.Steps.{setsBelow-length, setsBelow-at}
-use Rattle.cache.proofs.Lists.{Each, and-true, each-keep, each-kept, each-member, each-weaker, keep-each, keep-length, keep-four, first-serves, none-serves, none-found}
+use Rattle.cache.proofs.Lists.{Each, and-true, each-keep, each-kept, each-weaker, keep-each, keep-length, keep-four}
 
 -- One place.
 
 -- what a filled place has
 pub record Filled (i : ℕ) (p : Place) : Type 0 where
-  pub is-marked : p .marked ≡ true
+  pub is-marked : isMarked p ≡ true
   pub tag-below : p .tag < 2 ^ 52
   pub own-set : setIndex (p .tag) ≡ i
   pub frame-below : p .frame .0 < 2 ^ 40
@@ -34,7 +35,7 @@ pub record Filled (i : ℕ) (p : Place) : Type 0 where
 pub filled-has : (i : ℕ) (p : Place) → filledIn i p ≡ true → Filled i p
 unfolding filledIn
 filled-has i p h =
-    let a = and-true (p .marked) _ h in
+    let a = and-true (isMarked p) _ h in
     let b = and-true (ltb (p .tag) (2 ^ 52) && eqb (setIndex (p .tag)) i) _ (a .1) in
     let c = and-true (ltb (p .tag) (2 ^ 52)) _ (b .0) in
     let d = and-true (ltb (p .frame .0) (2 ^ 40)) _ (b .1) in
@@ -84,36 +85,24 @@ unfolding spares
 fill-leaves new p e = drop-leaves (new .tag) p e
 
 -- a root load takes the places without G, and no other
-pub root-takes : (p : Place) → stays p ≡ p .global
+pub root-takes : (p : Place) → stays p ≡ hasG p
 unfolding stays
 root-takes p = refl
 
 -- what a place that serves has
 pub record Serves (w : Wanted) (p : Place) : Type 0 where
   pub same-tag : p .tag ≡ w .tag
-  pub has-write : given (w .write) (p .write) ≡ true
-  pub has-user : given (w .user) (p .user) ≡ true
-  pub has-fetch : given (w .fetch) (p .fetch) ≡ true
-  pub has-dirty : given (w .dirty) (p .dirty) ≡ true
+  pub has-flags : includes (w .flags) (p .flags) ≡ true
 
 pub serves-has : (w : Wanted) (p : Place) → serves w p ≡ true → Serves w p
 unfolding serves
 serves-has w p h =
     let a = and-true (eqb (p .tag) (w .tag)) _ h in
-    let b = and-true (given (w .write) (p .write) && given (w .user) (p .user)) _ (a .1) in
-    let c = and-true (given (w .write) (p .write)) _ (b .0) in
-    let d = and-true (given (w .fetch) (p .fetch)) _ (b .1) in
-    record {
-      same-tag = eqb-true (p .tag) (w .tag) (a .0);
-      has-write = c .0;
-      has-user = c .1;
-      has-fetch = d .0;
-      has-dirty = d .1;
-    }
+    record { same-tag = eqb-true (p .tag) (w .tag) (a .0); has-flags = a .1 }
 
 pub has-serves : (w : Wanted) (p : Place) → Serves w p → serves w p ≡ true
 unfolding serves
-has-serves w p h = rw (eq-eqb (p .tag) (w .tag) (h .same-tag), h .has-write, h .has-user, h .has-fetch, h .has-dirty)
+has-serves w p h = rw (eq-eqb (p .tag) (w .tag) (h .same-tag), h .has-flags)
 
 -- a place of another tag does not serve
 pub other-serves-not : (w : Wanted) (p : Place) → otherTag (w .tag) p ≡ true → not (serves w p) ≡ true
@@ -130,9 +119,6 @@ other-serves-not w p h = go (eqb (p .tag) (w .tag)) _ h
 pub filled-places : (i : ℕ) (s : Set) → Each (filledIn i) (filled i s)
 unfolding filled
 filled-places i s = each-keep (filledIn i) (four (s .places))
-
-pub filled-place : (i : ℕ) (s : Set) {p : Place} → List·Memᴰ p (filled i s) → filledIn i p ≡ true
-filled-place i s m = each-member (filledIn i) m (filled-places i s)
 
 -- a set holds four places at most
 pub filled-length : (i : ℕ) (s : Set) → length (filled i s) ≤ 4
@@ -166,38 +152,6 @@ filled-drop i t s = filled-kept i (otherTag t) s
 pub filled-root : (i : ℕ) (s : Set) → filled i (rootSet i s) ≡ keep stays (filled i s)
 unfolding rootSet
 filled-root i s = filled-kept i stays s
-
--- a lookup goes by what the set holds
-pub find-held : (i : ℕ) (w : Wanted) (s : Set) → findIn i w s ≡ firstServing w (filled i s)
-unfolding findIn
-find-held i w s = refl
-
-pub find-same : (i : ℕ) (w : Wanted) (s t : Set) → filled i s ≡ filled i t → findIn i w s ≡ findIn i w t
-unfolding findIn
-find-same i w s t e = ap (firstServing w) e
-
--- what a lookup finds is held, and serves
-pub find-serves : (i : ℕ) (w : Wanted) (s : Set) (p : Place) → findIn i w s ≡ At p → List·Memᴰ p (filled i s) × (serves w p ≡ true)
-unfolding findIn
-find-serves i w s p h = first-serves w (filled i s) p h
-
--- where it finds nothing, nothing that is held serves
-pub find-none : (i : ℕ) (w : Wanted) (s : Set) → findIn i w s ≡ Nothing → Each (λ p. not (serves w p)) (filled i s)
-unfolding findIn
-find-none i w s h = none-serves w (filled i s) h
-
--- the new place is found by what it serves
-pub find-new : (i : ℕ) (w : Wanted) (p : Place) (s : Set) → filledIn i p ≡ true → serves w p ≡ true → findIn i w (fillSet i p s) ≡ At p
-find-new i w p s h served = find-held i w (fillSet i p s) ∙ ap (firstServing w) (filled-fill i p s h) ∙ rw served
-
--- after a drop of its tag nothing is found
-pub others-serve-not : (w : Wanted) (ps : List Place) → Each (λ p. not (serves w p)) (keep (otherTag (w .tag)) ps)
-others-serve-not w ps =
-    each-weaker (otherTag (w .tag)) (λ p. not (serves w p)) (other-serves-not w) (keep (otherTag (w .tag)) ps) (each-keep (otherTag (w .tag)) ps)
-
-pub find-dropped : (i : ℕ) (w : Wanted) (s : Set) → findIn i w (dropSet i (w .tag) s) ≡ Nothing
-find-dropped i w s =
-    find-held i w (dropSet i (w .tag) s) ∙ ap (firstServing w) (filled-drop i (w .tag) s) ∙ none-found w (keep (otherTag (w .tag)) (filled i s)) (others-serve-not w (filled i s))
 
 -- The whole cache. A cache has 16 sets, and every change leaves as many.
 
@@ -275,13 +229,23 @@ none-elsewhere t j c apart = each-weaker (filledIn j) (otherTag t) other (held j
     other : (p : Place) → filledIn j p ≡ true → otherTag t p ≡ true
     other p h = drop-leaves t p (λ e. apart (sym (filled-has j p h .own-set) ∙ ap setIndex e))
 
+-- what a change of one set leaves there, where a set with no places keeps none
+changed-own : (i : ℕ) (change : Set → Set) (test : Place → Bool) (c : Cache)
+    → ((s : Set) → filled i (change s) ≡ keep test (filled i s)) → held i (rewriteSet i change c) ≡ keep test (held i c)
+changed-own i change test c leaves = go (decLt i (length (c .sets)))
+  where
+    go : Dec (i < length (c .sets)) → held i (rewriteSet i change c) ≡ keep test (held i c)
+    go (yes inside) = ap (filled i) (getD-set-same (c .sets) i _ _ inside) ∙ leaves (setAt i c)
+    go (no past) =
+        held-past i (rewriteSet i change c) (omega (arith, length-set (c .sets) i (change (setAt i c)))) ∙ ap (keep test) (sym (held-past i c (omega arith)))
+
 -- a page drop leaves in every set what is of another tag
-pub held-drop : (t : ℕ) (c : Cache) (j : ℕ) → Sixteen c → held j (dropPage t c) ≡ keep (otherTag t) (held j c)
+pub held-drop : (t : ℕ) (c : Cache) (j : ℕ) → held j (dropPage t c) ≡ keep (otherTag t) (held j c)
 unfolding dropPage
-held-drop t c j sixteen = go (ℕ-discrete j (setIndex t))
+held-drop t c j = go (ℕ-discrete j (setIndex t))
   where
     go : Dec (j ≡ setIndex t) → held j (dropPage t c) ≡ keep (otherTag t) (held j c)
-    go (yes same) = rw same (ap (filled (setIndex t)) (own-set-at (setIndex t) (dropSet (setIndex t) t) c sixteen (index-below t)) ∙ filled-drop (setIndex t) t (setAt (setIndex t) c))
+    go (yes same) = rw same (changed-own (setIndex t) (dropSet (setIndex t) t) (otherTag t) c (filled-drop (setIndex t) t))
     go (no apart) =
         ap (filled j) (other-set-at (setIndex t) j (dropSet (setIndex t) t) c apart) ∙ sym (keep-each (otherTag t) (held j c) (none-elsewhere t j c apart))
 
@@ -294,20 +258,11 @@ held-root c j sixteen = go (decLt j 16)
     go (yes small) = ap (filled j) (each-set-at rootSet c j small) ∙ filled-root j (setAt j c)
     go (no large) = held-past j (loadRoot c) (omega arith) ∙ ap (keep stays) (sym (held-past j c (omega arith)))
 
--- a lookup goes by what its tag's set holds
+-- a lookup in the set of its tag
+abbrev pub findCache : Wanted → Cache → Found
+findCache w c = findIn (setIndex (w .tag)) w (setAt (setIndex (w .tag)) c)
+
+-- it goes by what that set holds
 pub find-cache : (w : Wanted) (c : Cache) → findCache w c ≡ firstServing w (held (setIndex (w .tag)) c)
-unfolding findCache findIn
+unfolding findIn
 find-cache w c = refl
-
--- the new place is found by what it serves
-pub find-filled : (w : Wanted) (p : Place) (c : Cache) → Sixteen c → filledIn (setIndex (p .tag)) p ≡ true → serves w p ≡ true
-    → findCache w (fillCache p c) ≡ At p
-find-filled w p c sixteen h served =
-    find-cache w (fillCache p c) ∙ ap (λ (t : ℕ). firstServing w (held (setIndex t) (fillCache p c))) (sym (serves-has w p served .same-tag))
-    ∙ ap (firstServing w) (held-fill p c sixteen h) ∙ rw served
-
--- after a drop of its page nothing is found
-pub find-page-dropped : (w : Wanted) (c : Cache) → Sixteen c → findCache w (dropPage (w .tag) c) ≡ Nothing
-find-page-dropped w c sixteen =
-    find-cache w (dropPage (w .tag) c) ∙ ap (firstServing w) (held-drop (w .tag) c (setIndex (w .tag)) sixteen)
-    ∙ none-found w (keep (otherTag (w .tag)) (held (setIndex (w .tag)) c)) (others-serve-not w (held (setIndex (w .tag)) c))

@@ -2,13 +2,13 @@
 use Prim.Native.Nat.{ℕ, zero, suc, _≤_, suc-le-suc}
 use native.Mathlib.Nat.{le-refl}
 use native.Mathlib.Omega.{arith}
-use mathlib.Core.Path.{_≡_, refl, sym, ap, _∙_}
+use mathlib.Core.Path.{_≡_, refl, ap, _∙_}
 use mathlib.Core.Bool.{Bool, true, false, not, _&&_, cond}
-use mathlib.Core.List.{List, [], _∷_, _++_, List·Memᴰ, List·Memᴰ·head, List·Memᴰ·tail, append-nil}
+use mathlib.Core.List.{List, [], _∷_, _++_, List·Memᴰ, List·Memᴰ·head, List·Memᴰ·tail}
 use lib.ListN.{length, take}
 use Rattle.cache.specs.declared.Place.{Place}
 use Rattle.cache.specs.declared.Wanted.{Wanted}
-use Rattle.cache.specs.declared.Found.the-variants.{At, Nothing}
+use Rattle.cache.specs.declared.Found.the-variants.{At}
 use Rattle.cache.specs.Places.{zeroPlace, serves}
 use Rattle.cache.specs.Sets.{pick, keep, four, firstServing}
 
@@ -69,11 +69,6 @@ pub each-weaker : (f g : Place → Bool) → ((p : Place) → f p ≡ true → g
 each-weaker f g weaker [] h = tt
 each-weaker f g weaker (p ∷ ps) h = (weaker p (h .0), each-weaker f g weaker ps (h .1))
 
--- a place of a list passes what all pass
-pub each-member : (test : Place → Bool) {p : Place} {ps : List Place} → List·Memᴰ p ps → Each test ps → test p ≡ true
-each-member test (List·Memᴰ·head e) h = ap test e ∙ h .0
-each-member test (List·Memᴰ·tail m) h = each-member test m (h .1)
-
 -- a filter makes no list longer
 pub keep-length : (test : Place → Bool) (ps : List Place) → length (keep test ps) ≤ length ps
 keep-length test [] = le-refl 0
@@ -122,16 +117,6 @@ first-serves w (q ∷ ps) p h = go (serves w q) refl h (first-serves w ps p)
     go true e found below = let same : p ≡ q = cc in (List·Memᴰ·head same, ap (serves w) same ∙ e)
     go false e found below = (List·Memᴰ·tail (below found .0), below found .1)
 
--- where nothing is found, no place serves
-pub none-serves : (w : Wanted) (ps : List Place) → firstServing w ps ≡ Nothing → Each (λ p. not (serves w p)) ps
-none-serves w [] h = tt
-none-serves w (p ∷ ps) h = go (serves w p) h (none-serves w ps)
-  where
-    go : (b : Bool) → cond b (At p) (firstServing w ps) ≡ Nothing → (firstServing w ps ≡ Nothing → Each (λ q. not (serves w q)) ps)
-        → (not b ≡ true) × Each (λ q. not (serves w q)) ps
-    go true found below = let z : _≡_ {A = ℕ} 0 1 = cc in absurd (omega arith)
-    go false found below = (refl, below found)
-
 -- places that do not serve are passed by
 pub passed-by : (w : Wanted) (ps qs : List Place) → Each (λ p. not (serves w p)) ps → firstServing w (ps ++ qs) ≡ firstServing w qs
 passed-by w [] qs h = refl
@@ -140,7 +125,3 @@ passed-by w (p ∷ ps) qs h = go (serves w p) (h .0) (passed-by w ps qs (h .1))
     go : (b : Bool) → not b ≡ true → firstServing w (ps ++ qs) ≡ firstServing w qs → cond b (At p) (firstServing w (ps ++ qs)) ≡ firstServing w qs
     go true e rest = let z : _≡_ {A = ℕ} 0 1 = cc in absurd (omega arith)
     go false e rest = rest
-
--- where no place serves, nothing is found
-pub none-found : (w : Wanted) (ps : List Place) → Each (λ p. not (serves w p)) ps → firstServing w ps ≡ Nothing
-none-found w ps h = ap (firstServing w) (sym (append-nil ps)) ∙ passed-by w ps [] h

@@ -50,7 +50,8 @@ firstServing w (p ∷ ps) = cond (serves w p) (At p) (firstServing w ps)
 unfoldable pub findIn : ℕ → Wanted → Set → Found
 findIn i w s = firstServing w (filled i s)
 
--- "removes all places with that tag from the set, closes gaps in order, and puts the new one first"
+-- "removes all places with that tag from the set, closes gaps in order, and puts the new one first";
+-- "Source document 001 speaks of least recent use; here fill order decides."
 -- (a new place that is not filled in its set would stand in front and read as empty; callers fill none such)
 unfoldable pub fillSet : ℕ → Place → Set → Set
 fillSet i p s = setOf (p ∷ keep (spares p) (filled i s))

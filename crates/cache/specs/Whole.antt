@@ -5,10 +5,8 @@ use lib.ListN.{getD, set, replicate}
 use Rattle.cache.specs.declared.Place.{Place}
 use Rattle.cache.specs.declared.Set.{Set}
 use Rattle.cache.specs.declared.Cache.{Cache}
-use Rattle.cache.specs.declared.Wanted.{Wanted}
-use Rattle.cache.specs.declared.Found.{Found}
 use Rattle.cache.specs.Places.{setIndex}
-use Rattle.cache.specs.Sets.{emptySet, filled, findIn, fillSet, dropSet, rootSet}
+use Rattle.cache.specs.Sets.{emptySet, filled, fillSet, dropSet, rootSet}
 
 -- a cache's set of a number; past the end a set with no places
 abbrev pub setAt : ℕ → Cache → Set
@@ -31,13 +29,9 @@ setsBelow (suc n) f = setsBelow n f ++ (f n ∷ [])
 abbrev pub rewriteAll : (ℕ → Set → Set) → Cache → Cache
 rewriteAll change c = record { sets = setsBelow 16 (λ i. change i (setAt i c)) }
 
--- "drops everything and leaves zeros"
+-- "the empty cache belongs to the cache"; "drops everything and leaves zeros"
 abbrev pub emptyCache : Cache
 emptyCache = record { sets = replicate 16 emptySet }
-
--- a translation is looked up in the set of its tag
-unfoldable pub findCache : Wanted → Cache → Found
-findCache w c = findIn (setIndex (w .tag)) w (setAt (setIndex (w .tag)) c)
 
 -- a new place goes into the set of its tag
 unfoldable pub fillCache : Place → Cache → Cache

@@ -5,18 +5,13 @@ pub mod whole;
 
 use address::Frame;
 
-// A remembered translation of one 4 KiB piece.
+// A remembered translation of one 4 KiB piece; its flags are bits, so that any bytes are a place.
 #[repr(C)]
 pub struct Place {
     pub tag: u64,
     pub frame: Frame,
     pub size: u8,
-    pub marked: bool,
-    pub write: bool,
-    pub user: bool,
-    pub fetch: bool,
-    pub dirty: bool,
-    pub global: bool,
+    pub flags: u8,
 }
 
 // Four places, the one filled last in front.
@@ -31,13 +26,10 @@ pub struct Cache {
     pub sets: [Set; 16],
 }
 
-// What a translation wants of a place: its tag, the rights that the access needs, and D for a write.
+// What a translation wants of a place: its tag, and the flags that it must have.
 pub struct Wanted {
     pub tag: u64,
-    pub write: bool,
-    pub user: bool,
-    pub fetch: bool,
-    pub dirty: bool,
+    pub flags: u8,
 }
 
 // What a lookup finds.

@@ -7,6 +7,19 @@ ghost use mathlib.Core.Path.{_≡_};
 ghost use Rattle.cache.specs.Places as spec;
 
 impl Place {
+    // The flags: combined R/W, U/S and fetch rights, D, G, and that the place is marked.
+    pub const WRITE: u8 = 1;
+
+    pub const USER: u8 = 2;
+
+    pub const FETCH: u8 = 4;
+
+    pub const DIRTY: u8 = 8;
+
+    pub const GLOBAL: u8 = 16;
+
+    pub const MARKED: u8 = 32;
+
     // The place of all zeros.
     pub fn empty() -> Place
         ensures { λ r. ⌜ r ≡ spec.zeroPlace ⌝ }
@@ -15,12 +28,7 @@ impl Place {
             tag: 0,
             frame: Frame(0),
             size: 0,
-            marked: false,
-            write: false,
-            user: false,
-            fetch: false,
-            dirty: false,
-            global: false,
+            flags: 0,
         }
     }
 
@@ -31,7 +39,7 @@ impl Place {
         let own = Cache::set_of(self.tag);
         let tag = (self.tag < 0x10_0000_0000_0000) & (own == set);
         let size = (1 <= self.size) & (self.size <= 3);
-        self.marked & (tag & ((self.frame.0 < 0x100_0000_0000) & size))
+        (self.flags / Place::MARKED % 2 == 1) & (tag & ((self.frame.0 < 0x100_0000_0000) & size))
     }
 
     // Whether the place is of another page: a drop of the tag leaves it.
@@ -52,17 +60,13 @@ impl Place {
     pub fn stays(self) -> bool
         ensures { λ r. ⌜ r ≡ spec.stays self ⌝ }
     {
-        self.global
+        self.flags / Place::GLOBAL % 2 == 1
     }
 
     // Whether the place has all that a translation wants.
     pub fn serves(self, wanted: Wanted) -> bool
         ensures { λ r. ⌜ r ≡ spec.serves wanted self ⌝ }
     {
-        let write = !wanted.write | self.write;
-        let user = !wanted.user | self.user;
-        let fetch = !wanted.fetch | self.fetch;
-        let dirty = !wanted.dirty | self.dirty;
-        (self.tag == wanted.tag) & ((write & user) & (fetch & dirty))
+        (self.tag == wanted.tag) & (wanted.flags & self.flags == wanted.flags)
     }
 }

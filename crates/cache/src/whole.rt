@@ -1,15 +1,12 @@
-// The cache: a tag's set is looked up, filled or dropped from; a root load goes over all sets.
+// The cache: a page is dropped from its tag's set; a root load goes over all sets.
 use crate::Cache;
-use crate::Found;
-use crate::Place;
 use crate::Set;
-use crate::Wanted;
 ghost use mathlib.Core.Path.{_≡_};
 ghost use Rattle.cache.specs.Places as place;
 ghost use Rattle.cache.specs.Whole as spec;
 
 impl Cache {
-    // The cache of all zeros.
+    // The cache of all zeros: "the empty cache belongs to the cache".
     pub fn empty() -> Cache
         ensures { λ r. ⌜ r ≡ spec.emptyCache ⌝ }
     {
@@ -22,29 +19,6 @@ impl Cache {
         ensures { λ r. ⌜ r ≡ place.setIndex tag ⌝ }
     {
         tag % 16
-    }
-
-    // The first filled place of the tag's set that serves.
-    pub fn find(self, wanted: Wanted) -> Found
-        ensures { λ r. ⌜ r ≡ spec.findCache wanted self ⌝ }
-    {
-        let set = Cache::set_of(wanted.tag);
-        let i = set as usize;
-        let own = self.sets[i];
-        own.find(set, wanted)
-    }
-
-    // The cache with a new place in its tag's set.
-    pub fn fill(self, place: Place) -> Cache
-        ensures { λ r. ⌜ r ≡ spec.fillCache place self ⌝ }
-    {
-        let mut cache = self;
-        let set = Cache::set_of(place.tag);
-        let i = set as usize;
-        let own = cache.sets[i];
-        let filled = own.fill(set, place);
-        cache.sets[i] = filled;
-        cache
     }
 
     // The cache without the places of a tag.

@@ -1,4 +1,5 @@
 pub mod Cards
+pub mod Demand1
 pub mod Elements
 pub mod Found
 pub mod Lending

@@ -1,16 +1,19 @@
 -- "Exercise cards": 32 bytes to a call of the machine, and one card's step.
 use Prim.Native.Nat.{ℕ}
-use mathlib.Core.Bool.{Bool, cond}
+use mathlib.Core.Path.{_≡_}
+use mathlib.Core.Bool.{cond}
 use mathlib.Core.List.{List}
-use mathlib.Core.Option.{Option, some, none}
 use lib.Dec.{eqb}
 use lib.ListN.{length, getD}
 use Rattle.word.specs.Bits.{field}
 use Rattle.word.specs.Bytes.{load}
 use Rattle.walk.specs.declared.Numbers.{Numbers}
 use Rattle.walk.specs.Translate.{numbers, refusal}
+use Rattle.machine.specs.declared.Call.the-variants as Call
 use Rattle.machine.specs.declared.Machine.{Machine}
-use Rattle.machine.specs.Calls.{Call, translate, store, root, settings, page, all, Result, step}
+use Rattle.machine.specs.Calls.{step}
+use Rattle.card.specs.declared.Decoded.{Decoded}
+use Rattle.card.specs.declared.Decoded.the-variants as Decoded
 
 -- "Byte 0 is the kind, 1 access, 2 mode"
 abbrev pub kind : List ℕ → ℕ
@@ -39,34 +42,37 @@ cr4 card = field (address card) 32 32
 abbrev pub width : List ℕ → ℕ
 width card = getD card 24 0
 
--- "Kinds: 0 translate, 1 store the value's 8 bytes, 2 load root (value), 3 drop page, 4 drop all, 5 settings"; any other is unknown
-unfoldable pub callOf : ℕ → List ℕ → Option Call
+-- "Kinds: 0 translate, 1 store the value's 8 bytes, 2 load root (value), 3 drop page, 4 drop all, 5 settings"; any other is refused with 1. "Other bytes are ignored."
+unfoldable pub callOf : ℕ → List ℕ → Decoded
 callOf k card =
-    cond (eqb k 0) (some (translate (record { 0 = address card }) (access card) (mode card)))
-    (cond (eqb k 1) (some (store (address card) (value card)))
-    (cond (eqb k 2) (some (root (value card)))
-    (cond (eqb k 3) (some (page (record { 0 = address card })))
-    (cond (eqb k 4) (some all) (cond (eqb k 5) (some (settings (cr0 card) (cr4 card) (value card) (width card))) none)))))
+    cond (eqb k 0) (Decoded.Call (Call.Translate (record { 0 = address card }) (access card) (mode card)))
+    (cond (eqb k 1) (Decoded.Call (Call.Store (address card) (value card)))
+    (cond (eqb k 2) (Decoded.Call (Call.LoadRoot (value card)))
+    (cond (eqb k 3) (Decoded.Call (Call.DropPage (record { 0 = address card })))
+    (cond (eqb k 4) (Decoded.Call Call.DropAll)
+    (cond (eqb k 5) (Decoded.Call (Call.LoadSettings (cr0 card) (cr4 card) (value card) (width card))) (Decoded.Refused 1))))))
+
+-- what a card says: "A card is 32 bytes, no header."; 6 "last card short"
+unfoldable pub decoded : List ℕ → Decoded
+decoded card = cond (eqb (length card) 32) (callOf (kind card) card) (Decoded.Refused 6)
 
 -- what a card gives: the four numbers, the machine and memory afterwards
-pub record Stepped : Type 0 where
+pub record Turned : Type 0 where
   pub numbers : Numbers
   pub machine : Machine
   pub memory : List ℕ
 
--- a card refused before it is a call: "1 access, mode or card kind unknown", "6 last card short"
-abbrev pub refused : ℕ → Machine → List ℕ → Stepped
-refused number m memory = record { numbers = refusal number; machine = m; memory = memory }
+-- a call's result in the paper's numbers; a card that is no call changes nothing
+abbrev pub turned : Machine → List ℕ → Decoded → Turned
+turned m memory (Decoded.Call call) =
+    record { numbers = numbers (step m memory call .answer); machine = step m memory call .machine; memory = step m memory call .memory }
+turned m memory (Decoded.Refused number) = record { numbers = refusal number; machine = m; memory = memory }
 
--- a call's result in the paper's numbers
-abbrev pub told : Result → Stepped
-told r = record { numbers = numbers (r .answer); machine = r .machine; memory = r .memory }
+-- one card's step; "A short last card gives a line with 6 and ends"
+unfoldable pub stepped : Machine → List ℕ → List ℕ → Turned
+stepped m memory card = turned m memory (decoded card)
 
--- a card's call, made on the machine
-abbrev pub called : Machine → List ℕ → Option Call → Stepped
-called m memory (some call) = told (step m memory call)
-called m memory none = refused 1 m memory
-
--- one card's step: a card of other than 32 bytes is short
-unfoldable pub stepped : Machine → List ℕ → List ℕ → Stepped
-stepped m memory card = cond (eqb (length card) 32) (called m memory (callOf (kind card) card)) (refused 6 m memory)
+-- numbers, machine and memory are what a card gives on a machine and memory
+abbrev pub Gives : Machine → List ℕ → List ℕ → Numbers → Machine → List ℕ → Type 0
+Gives m memory card n m′ memory′ =
+    (n ≡ stepped m memory card .numbers) × (m′ ≡ stepped m memory card .machine) × (memory′ ≡ stepped m memory card .memory)

@@ -1,2 +1,3 @@
 pub mod Card
+pub mod Demand1
 pub mod Probe

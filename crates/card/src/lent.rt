@@ -1,23 +1,16 @@
 // One card's step in place, on a lent machine record.
 use crate::Turn;
-use crate::probe::look;
-use crate::probe::set_of;
 use crate::value;
 use machine::Machine;
 use walk::Numbers;
 ghost use mathlib.Core.Path.{_≡_};
 ghost use Rattle.card.specs.Card as spec;
 
-// One card's step: where the set of the card's page answers it, nothing is stored; else the record is stepped by value, and stored.
+// One card's step: the record is taken apart, stepped by value, and stored.
 pub fn step(machine: &mut Machine, memory: &mut [u8], card: &[u8]) -> Numbers
-    ensures { λ r. ⌜ (r ≡ spec.stepped (now (machine .entry)) (now (memory .entry)) (now (card .entry)) .numbers) × (now (machine .exit) ≡ spec.stepped (now (machine .entry)) (now (memory .entry)) (now (card .entry)) .machine) × (now (memory .exit) ≡ spec.stepped (now (machine .entry)) (now (memory .entry)) (now (card .entry)) .memory) ⌝ }
+    ensures { λ r. ⌜ spec.Gives (now (machine .entry)) (now (memory .entry)) (now (card .entry))
+        r (now (machine .exit)) (now (memory .exit)) ⌝ }
 {
-    let index = set_of(card);
-    let set = machine.cache.sets[index];
-    let seen = look(machine.settings, set, card);
-    if seen.answered {
-        return seen.numbers;
-    }
     let turn = value::step(*machine, memory, card);
     *machine = turn.machine;
     turn.numbers
@@ -25,7 +18,7 @@ pub fn step(machine: &mut Machine, memory: &mut [u8], card: &[u8]) -> Numbers
 
 // The same from a machine by value to a machine by value: the record is lent for the step.
 pub fn turn(machine: Machine, memory: &mut [u8], card: &[u8]) -> Turn
-    ensures { λ r. ⌜ (r .numbers ≡ spec.stepped machine (now (memory .entry)) (now (card .entry)) .numbers) × (r .machine ≡ spec.stepped machine (now (memory .entry)) (now (card .entry)) .machine) × (now (memory .exit) ≡ spec.stepped machine (now (memory .entry)) (now (card .entry)) .memory) ⌝ }
+    ensures { λ r. ⌜ spec.Gives machine (now (memory .entry)) (now (card .entry)) (r .numbers) (r .machine) (now (memory .exit)) ⌝ }
 {
     let mut lent = machine;
     let numbers = step(&mut lent, memory, card);

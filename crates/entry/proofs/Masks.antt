@@ -10,7 +10,8 @@ use lib.Bits.{bitAnd, and-high, and-mask, and-mod, and-block, and-le-r, and-zero
 use lib.Dec.{eqb, lit<}
 use lib.Pow.{pow-pos, pow-mono, split}
 use Rattle.word.specs.Bits.{bit, field}
-use Rattle.entry.specs.Says.{aboveWidth, executeDisabled, forbidden, under, says, told, isPage, sizeTooLarge, insidePage}
+use Rattle.entry.specs.Masks.{forbidden, under}
+use Rattle.entry.specs.Says.{aboveWidth, executeDisabled, says, saysBy, isPage, sizeTooLarge, insidePage}
 
 -- the bits from low up to, not including, high, kept in place
 pub masked : (n low high : ℕ) → bitAnd n (2 ^ high - 2 ^ low) ≡ field n low (high - low) * 2 ^ low
@@ -83,5 +84,5 @@ forbidden-finds width false e =
 -- what an entry says under the mask is what it says given the width and NXE
 pub under-says : (width : ℕ) (nxe : Bool) (level e : ℕ) → under (forbidden width nxe) level e ≡ says width nxe level e
 under-says width nxe level e =
-    ap (λ (b : Bool). told (bit e 0) (b || (sizeTooLarge level e || insidePage level e)) (isPage level e) level e)
+    ap (λ (b : Bool). saysBy (bit e 0) (b || (sizeTooLarge level e || insidePage level e)) (isPage level e) level e)
     (forbidden-finds width nxe e)

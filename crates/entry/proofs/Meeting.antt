@@ -25,7 +25,7 @@ and-right : (a b : Bool) → (a && b) ≡ true → b ≡ true
 and-right true b h = h
 and-right false b h = absurd (false≢true h)
 
-same-true : (a b : Bool) → Bool·beq a b ≡ true → a ≡ b
+pub same-true : (a b : Bool) → Bool·beq a b ≡ true → a ≡ b
 same-true true true h = refl
 same-true true false h = absurd (false≢true h)
 same-true false true h = absurd (false≢true h)
@@ -54,10 +54,10 @@ test-not x = go (x % 2) (mod-lt x (lit< tt))
     go (suc (suc r)) h = absurd (omega arith)
 
 -- a test at both bools
-abbrev every : (Bool → Bool) → Bool
+abbrev pub every : (Bool → Bool) → Bool
 every f = f true && f false
 
-at : (f : Bool → Bool) → every f ≡ true → (b : Bool) → f b ≡ true
+pub at : (f : Bool → Bool) → every f ≡ true → (b : Bool) → f b ≡ true
 at f h true = and-left (f true) (f false) h
 at f h false = and-right (f true) (f false) h
 

@@ -12,11 +12,12 @@ use Rattle.address.specs.declared.PhysAddr.{PhysAddr}
 use Rattle.address.specs.Address.{pageBits}
 use Rattle.entry.specs.declared.Says.{Says}
 use Rattle.entry.specs.declared.Says.the-variants.{Missing, Reserved, Table, Page}
-use Rattle.entry.specs.Says.{told, tableBase, pageBase, under, isPage, sizeTooLarge, insidePage}
+use Rattle.entry.specs.Masks.{under}
+use Rattle.entry.specs.Says.{saysBy, tableBase, pageBase, isPage, sizeTooLarge, insidePage}
 
 abbrev pub answer : ℕ → ℕ → Bool → Bool → Bool → Bool → Bool → Bool → Says
 answer level entry present met low ps above inside =
-    told present (met || ((ps && above) || ((low || ps) && inside))) (low || ps) level entry
+    saysBy present (met || ((ps && above) || ((low || ps) && inside))) (low || ps) level entry
 
 and-false : (b : Bool) → (b && false) ≡ false
 and-false true = refl
@@ -56,12 +57,12 @@ module _ (level entry : ℕ) (present met low ps above inside : Bool) where
   large-page a b c d e f = rw (a, b, c, d, e, f)
 
 -- an entry that names a table is no page
-told-table : (present met page : Bool) (level entry : ℕ) (t : PhysAddr)
-    → told present met page level entry ≡ Table t → (page ≡ false) × (tableBase entry ≡ t)
-told-table true true page level entry t h = (cc, cc)
-told-table true false true level entry t h = (cc, cc)
-told-table true false false level entry t h = (refl, cc)
-told-table false met page level entry t h = (cc, cc)
+says-table : (present met page : Bool) (level entry : ℕ) (t : PhysAddr)
+    → saysBy present met page level entry ≡ Table t → (page ≡ false) × (tableBase entry ≡ t)
+says-table true true page level entry t h = (cc, cc)
+says-table true false true level entry t h = (cc, cc)
+says-table true false false level entry t h = (refl, cc)
+says-table false met page level entry t h = (cc, cc)
 
 or-left : (a b : Bool) → (a || b) ≡ false → a ≡ false
 or-left true b h = h
@@ -71,13 +72,13 @@ or-left false b h = refl
 pub table-level : (mask level entry : ℕ) (t : PhysAddr) → under mask level entry ≡ Table t → 1 < level
 table-level mask level entry t h =
     leb-false level 1 (or-left (leb level 1) (bit entry 7)
-    (told-table (bit entry 0) (not (eqb (bitAnd entry mask) 0) || (sizeTooLarge level entry || insidePage level entry)) (isPage level entry)
+    (says-table (bit entry 0) (not (eqb (bitAnd entry mask) 0) || (sizeTooLarge level entry || insidePage level entry)) (isPage level entry)
     level entry t h .0))
 
 -- a table that an entry names lies below 2^52
 pub table-fits : (mask level entry : ℕ) (t : PhysAddr) → under mask level entry ≡ Table t → t .0 + 4096 ≤ 2 ^ 52
 table-fits mask level entry t h =
-    let same : tableBase entry ≡ t = told-table (bit entry 0) (not (eqb (bitAnd entry mask) 0) || (sizeTooLarge level entry || insidePage level entry)) (isPage level entry)
+    let same : tableBase entry ≡ t = says-table (bit entry 0) (not (eqb (bitAnd entry mask) 0) || (sizeTooLarge level entry || insidePage level entry)) (isPage level entry)
     level entry t h .1 in
     let small : field entry 12 40 < 2 ^ 40 = mod-lt (entry / 2 ^ 12) (lit< tt) in
     let plain : tableBase entry .0 + 4096 ≤ 2 ^ 52 = omega arith in

@@ -1,3 +1,4 @@
 pub mod Mark
+pub mod Masks
 pub mod Rights
 pub mod Says

@@ -1,9 +1,7 @@
 -- Rights: what an entry gives, and whether what is held includes what is needed.
 use Prim.Native.Nat.{ℕ, _+_, _*_}
 use mathlib.Core.Bool.{Bool, not, cond}
-use lib.Bits.{bitAnd}
-use lib.Dec.{eqb}
-use Rattle.word.specs.Bits.{bit}
+use Rattle.word.specs.Bits.{bit, includes}
 
 -- rights as a number: 1 write, 2 user, 4 fetch
 abbrev pub number : Bool → Bool → Bool → ℕ
@@ -15,4 +13,4 @@ own entry = number (bit entry 1) (bit entry 2) (not (bit entry 63))
 
 -- the rights held include the rights needed
 abbrev pub allow : ℕ → ℕ → Bool
-allow needed held = eqb (bitAnd needed held) needed
+allow needed held = includes needed held

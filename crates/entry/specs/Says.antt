@@ -1,7 +1,6 @@
 -- What an entry says at its level: "Entry bits" and "P clear at any level" of the walk.
-use Prim.Native.Nat.{ℕ, _+_, _-_, _*_, _^_}
+use Prim.Native.Nat.{ℕ, _-_, _*_, _^_}
 use mathlib.Core.Bool.{Bool, not, _&&_, _||_, cond}
-use lib.Bits.{bitAnd}
 use lib.Dec.{eqb, leb, ltb}
 use Rattle.word.specs.Bits.{bit, field}
 use Rattle.address.specs.declared.PhysAddr.{PhysAddr}
@@ -13,7 +12,7 @@ use Rattle.entry.specs.declared.Says.the-variants.{Missing, Reserved, Ta
 abbrev pub largest : ℕ
 largest = 3
 
--- the entry maps a page: at level 1 always, above by PS
+-- the entry maps a page: above level 1 by "PS 7"; "At level 1 bit 7 is PAT." and every entry does
 abbrev pub isPage : ℕ → ℕ → Bool
 isPage level entry = leb level 1 || bit entry 7
 
@@ -33,7 +32,7 @@ sizeTooLarge level entry = bit entry 7 && ltb largest level
 abbrev pub insidePage : ℕ → ℕ → Bool
 insidePage level entry = isPage level entry && not (eqb (field entry 13 (pageBits level - 13)) 0)
 
--- a present entry has a reserved bit set
+-- a present entry has a reserved bit set: "Otherwise a reserved-bit fault. Bits 62:52 are ignored."
 abbrev pub reserved : ℕ → Bool → ℕ → ℕ → Bool
 reserved width nxe level entry =
     (aboveWidth width entry || executeDisabled nxe entry) || (sizeTooLarge level entry || insidePage level entry)
@@ -46,22 +45,11 @@ tableBase entry = record { 0 = field entry 12 40 * 2 ^ 12 }
 abbrev pub pageBase : ℕ → ℕ → PhysAddr
 pageBase level entry = record { 0 = field entry (pageBits level) (52 - pageBits level) * 2 ^ pageBits level }
 
--- what an entry says at its level, by the tests' order
-abbrev pub told : Bool → Bool → Bool → ℕ → ℕ → Says
-told present reserved page level entry =
+-- what an entry says at its level, given what the tests find: "P clear at any level: fault, [..] other bits of the entry unread."
+abbrev pub saysBy : Bool → Bool → Bool → ℕ → ℕ → Says
+saysBy present reserved page level entry =
     cond present (cond reserved Reserved (cond page (Page (pageBase level entry)) (Table (tableBase entry)))) Missing
 
 -- what an entry says at its level, given the width and NXE
 abbrev pub says : ℕ → Bool → ℕ → ℕ → Says
-says width nxe level entry = told (bit entry 0) (reserved width nxe level entry) (isPage level entry) level entry
-
--- the bits reserved in every entry, as a mask
-abbrev pub forbidden : ℕ → Bool → ℕ
-forbidden width nxe = (2 ^ 52 - 2 ^ width) + cond nxe 0 (2 ^ 63)
-
--- the same as says, with the bits reserved in every entry given as a mask
-abbrev pub under : ℕ → ℕ → ℕ → Says
-under mask level entry =
-    told (bit entry 0) (not (eqb (bitAnd entry mask) 0) || (sizeTooLarge level entry || insidePage level entry)) (isPage level entry)
-    level
-    entry
+says width nxe level entry = saysBy (bit entry 0) (reserved width nxe level entry) (isPage level entry) level entry

@@ -1,4 +1,5 @@
 // One table entry: reading it, what it says at its level, its rights, marking it.
+pub mod bits;
 pub mod mark;
 pub mod meaning;
 pub mod read;

@@ -1,5 +1,8 @@
 // What an entry says at its level.
 use crate::Says;
+use crate::bits::P;
+use crate::bits::PS;
+use crate::bits::XD;
 use address::PhysAddr;
 use word::bits::bit;
 ghost use mathlib.Core.Path.{_≡_};
@@ -8,12 +11,8 @@ ghost use Prim.Native.Nat.{_-_, _^_, _≤_};
 ghost use lib.Dec.{eqb};
 ghost use Rattle.word.specs.Bits.{field};
 ghost use Rattle.address.specs.Address.{pageBits};
+ghost use Rattle.entry.specs.Masks as masks;
 ghost use Rattle.entry.specs.Says as spec;
-
-// Entry bits, by the chapter's names: present, and page size.
-const P: u64 = 0;
-
-const PS: u64 = 7;
 
 // The highest level at which a page can end.
 const LARGEST: u64 = 3;
@@ -30,13 +29,13 @@ fn above_width(width: u64) -> u64
 
 // The bits that are reserved in every entry: 51 to M, and 63 without NXE.
 pub fn forbidden(width: u64, nxe: bool) -> u64
-    ensures { λ r. ⌜ r ≡ spec.forbidden width nxe ⌝ }
+    ensures { λ r. ⌜ r ≡ masks.forbidden width nxe ⌝ }
 {
     let above = above_width(width);
     if nxe {
         return above;
     }
-    above + 0x8000_0000_0000_0000
+    above + (1 << XD)
 }
 
 // The next table's base.
@@ -64,7 +63,7 @@ fn inside_page(entry: u64, level: u64) -> bool
 
 // What an entry says at a level, given the bits reserved in every entry.
 pub fn under(entry: u64, level: u64, forbidden: u64) -> Says
-    ensures { λ r. ⌜ r ≡ spec.under forbidden level entry ⌝ }
+    ensures { λ r. ⌜ r ≡ masks.under forbidden level entry ⌝ }
 {
     if !bit(entry, P) {
         return Says::Missing;

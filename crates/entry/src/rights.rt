@@ -1,14 +1,16 @@
 // The rights that an entry gives, as a number: 1 write, 2 user, 4 fetch.
+use crate::bits::RW;
+use crate::bits::XD;
 ghost use mathlib.Core.Bool.{cond};
 ghost use mathlib.Core.Path.{_≡_};
 ghost use Prim.Native.Nat.{_<_};
 ghost use Rattle.entry.specs.Rights as spec;
 
-// The rights of an entry by itself.
+// The rights of an entry by itself: R/W and U/S are neighbours.
 pub fn own(entry: u64) -> u64
     ensures { λ r. ⌜ r ≡ spec.own entry ⌝ }
 {
-    entry / 2 % 4 + 4 * (1 - entry / 0x8000_0000_0000_0000)
+    (entry >> RW) % 4 + 4 * (1 - (entry >> XD))
 }
 
 // A bool as a number.

@@ -154,6 +154,6 @@ exercises =
     ∷ ask usual supervisor read 0xFFFF800000000000 (fault 0 4 1)
     ∷ []
 
--- each exercise comes out by the rules as document 01 says
+-- each exercise comes out by the rules as document 01 says; "Each line starts afresh.": all are asked of the same memory
 abbrev pub Right : Type 0
 Right = map (found memory) exercises ≡ map (λ (e : Exercise). e .gives) exercises

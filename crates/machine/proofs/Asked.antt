@@ -10,29 +10,29 @@ use Rattle.settings.specs.Settings.{served, pg, widthServed}
 use Rattle.word.specs.Bits.{bit}
 use Rattle.address.specs.declared.VirtAddr.{VirtAddr}
 use Rattle.address.specs.Address.{tag, canonical}
-use Rattle.walk.specs.declared.Access.{Access}
+use Rattle.walk.specs.declared.Way.{Way}
 use Rattle.walk.specs.declared.Asked.{Asked}
 use Rattle.walk.specs.declared.Asked.the-variants as Asked
-use Rattle.walk.specs.Access.{known, accessOf}
+use Rattle.walk.specs.Access.{known, wayOf}
 use Rattle.walk.specs.Translate.{asked, askedOff}
 use Rattle.cache.proofs.Lists.{and-true}
 use Rattle.machine.proofs.Frames.{canonical-same}
 use Rattle.machine.proofs.Places.{Alike}
 
 -- a walk is due
-pub record Due (s : Settings) (address : VirtAddr) (access mode : ℕ) (a : Access) : Type 0 where
+pub record Due (s : Settings) (address : VirtAddr) (access mode : ℕ) (a : Way) : Type 0 where
   pub is-known : known access mode ≡ true
   pub is-served : served s ≡ true
   pub is-on : pg s ≡ true
   pub is-canonical : canonical address ≡ true
-  pub is-access : accessOf access mode ≡ a
+  pub is-access : wayOf access mode ≡ a
 
 -- the tests, in plain bools
-abbrev tests : Bool → Bool → Bool → Bool → Access → Asked → Asked
+abbrev tests : Bool → Bool → Bool → Bool → Way → Asked → Asked
 tests known served pg canonical a off =
     cond known (cond served (cond pg (cond canonical (Asked.On a) Asked.Form) off) Asked.NotServed) Asked.Unknown
 
-tests-on : (known served pg canonical : Bool) (b a : Access) (off : Asked) → (off ≡ Asked.On a → ⊥) → tests known served pg canonical b off ≡ Asked.On a
+tests-on : (known served pg canonical : Bool) (b a : Way) (off : Asked) → (off ≡ Asked.On a → ⊥) → tests known served pg canonical b off ≡ Asked.On a
     → (known ≡ true) × (served ≡ true) × (pg ≡ true) × (canonical ≡ true) × (b ≡ a)
 tests-on true true true true b a off never h = (refl, refl, refl, refl, cc)
 tests-on true true true false b a off never h = (refl, refl, refl, cc, cc)
@@ -41,16 +41,16 @@ tests-on true false pg canonical b a off never h = (cc, cc, cc, cc, cc)
 tests-on false served pg canonical b a off never h = (cc, cc, cc, cc, cc)
 
 -- with paging off no walk is due
-off-none : (address : VirtAddr) (a : Access) → askedOff address ≡ Asked.On a → ⊥
+off-none : (address : VirtAddr) (a : Way) → askedOff address ≡ Asked.On a → ⊥
 off-none address a h = go (ltb (address .0) (2 ^ 32)) h
   where
     go : (b : Bool) → cond b (Asked.Off (record { 0 = address .0 })) Asked.Form ≡ Asked.On a → ⊥
     go true h = let z : _≡_ {A = ℕ} 0 1 = cc in omega arith
     go false h = let z : _≡_ {A = ℕ} 0 1 = cc in omega arith
 
-pub due : (s : Settings) (address : VirtAddr) (access mode : ℕ) (a : Access) → asked s address access mode ≡ Asked.On a → Due s address access mode a
+pub due : (s : Settings) (address : VirtAddr) (access mode : ℕ) (a : Way) → asked s address access mode ≡ Asked.On a → Due s address access mode a
 due s address access mode a h =
-    let x = tests-on (known access mode) (served s) (pg s) (canonical address) (accessOf access mode) a (askedOff address) (off-none address a) h in
+    let x = tests-on (known access mode) (served s) (pg s) (canonical address) (wayOf access mode) a (askedOff address) (off-none address a) h in
     record { is-known = x .0; is-served = x .1; is-on = x .2; is-canonical = x .3; is-access = x .4 }
 
 -- served settings have a width from 32 on
@@ -62,7 +62,7 @@ served-wide s h =
     omega arith
 
 -- a walk is due in the same way at every address of the page, while the settings are served and differ in the root alone
-pub due-again : (s s′ : Settings) (first later : VirtAddr) (access mode : ℕ) (a : Access) → Alike s s′ → served s′ ≡ true → tag first ≡ tag later
+pub due-again : (s s′ : Settings) (first later : VirtAddr) (access mode : ℕ) (a : Way) → Alike s s′ → served s′ ≡ true → tag first ≡ tag later
     → Due s first access mode a → asked s′ later access mode ≡ Asked.On a
 due-again s s′ first later access mode a alike serving same d =
     rw (d .is-known, serving, ← (ap (λ (n : ℕ). bit n 31) (alike .cr0-same)), d .is-on, ← (canonical-same first later same), d .is-canonical)

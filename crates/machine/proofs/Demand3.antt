@@ -7,21 +7,22 @@ use lib.ListN.{length}
 use Rattle.settings.specs.declared.Settings.{Settings}
 use Rattle.address.specs.declared.VirtAddr.{VirtAddr}
 use Rattle.address.specs.Address.{tag}
-use Rattle.walk.specs.declared.Access.{Access}
+use Rattle.walk.specs.declared.Way.{Way}
 use Rattle.walk.specs.Walk.{walkAnswer, walkMemory}
 use Rattle.walk.specs.Translate.{answered, translated, translatedMemory}
 use Rattle.cache.specs.declared.Found.the-variants as Found
 use Rattle.cache.specs.declared.Place.{Place}
 use Rattle.cache.specs.Places.{setIndex, serves}
-use Rattle.cache.specs.Whole.{findCache, held}
-use Rattle.cache.proofs.Laws.{find-cache, serves-has}
+use Rattle.cache.specs.Whole.{held}
+use Rattle.cache.proofs.Laws.{findCache, find-cache, serves-has}
 use Rattle.cache.proofs.Lists.{first-serves}
+use Rattle.machine.specs.declared.Call.{Call}
+use Rattle.machine.specs.declared.Call.the-variants as Call
 use Rattle.machine.specs.Remember.{wanted, hit}
 use Rattle.machine.specs.Calls.{Result}
-use Rattle.machine.specs.Calls as Calls
 use Rattle.machine.specs.Series.{Stand, gives, run, start}
 use Rattle.machine.specs.History.{Latest, none, walk, latest}
-use Rattle.machine.specs.Demand3.{Premise, AsFresh, told, walks, FirstHalf, AnyWalk}
+use Rattle.machine.specs.Demand3.{Premise, AsFresh, withoutReads, walks, FirstHalf, AnyWalk}
 use Rattle.machine.proofs.Lists.{has-member}
 use Rattle.machine.proofs.Hits.{hit-fresh}
 use Rattle.machine.proofs.Translations.{Goes, quiet, hits, fills, goes}
@@ -34,8 +35,8 @@ module _ (now : Stand) (size : ℕ) (w : Latest) (address : VirtAddr) (access mo
   s = now .machine .settings
 
   -- a hit under the premise
-  fresh-hit : (a : Access) (p : Place) → findCache (wanted s address a) (now .machine .cache) ≡ Found.At p
-      → (told (hit address p) ≡ told (answered s address a (walkAnswer s address a (now .memory)))) × (now .memory ≡ walkMemory s address a (now .memory))
+  fresh-hit : (a : Way) (p : Place) → findCache (wanted s address a) (now .machine .cache) ≡ Found.At p
+      → (withoutReads (hit address p) ≡ withoutReads (answered s address a (walkAnswer s address a (now .memory)))) × (now .memory ≡ walkMemory s address a (now .memory))
   fresh-hit a p found = go w premise (has-member (Own (tag address) s size w) (member .0) (sound .backed) same)
     where
       member : List·Memᴰ p (held (setIndex (tag address)) (now .machine .cache)) × (serves (wanted s address a) p ≡ true)
@@ -47,22 +48,22 @@ module _ (now : Stand) (size : ℕ) (w : Latest) (address : VirtAddr) (access mo
       same = serves-has (wanted s address a) p (member .1) .same-tag
 
       go : (v : Latest) → Premise now v → Backed s size v p
-          → (told (hit address p) ≡ told (answered s address a (walkAnswer s address a (now .memory)))) × (now .memory ≡ walkMemory s address a (now .memory))
+          → (withoutReads (hit address p) ≡ withoutReads (answered s address a (walkAnswer s address a (now .memory)))) × (now .memory ≡ walkMemory s address a (now .memory))
       go none h back = absurd back
       go (walk v) h back = hit-fresh s size v p back address a (now .memory) (sound .as-long) (h .0) (h .1) (member .1)
 
   -- a translation under the premise
   as-fresh : Goes (now .machine) (now .memory) address access mode → AsFresh now address access mode
   as-fresh (quiet r no-success no-fault is fresh-is left-is) =
-      (ap (λ (x : Result). told (x .answer)) is ∙ ap told (sym fresh-is), ap (λ (x : Result). x .memory) is ∙ sym left-is)
+      (ap (λ (x : Result). withoutReads (x .answer)) is ∙ ap withoutReads (sym fresh-is), ap (λ (x : Result). x .memory) is ∙ sym left-is)
   as-fresh (hits a p found is fresh-is left-is) = (
-    ap (λ (x : Result). told (x .answer)) is ∙ fresh-hit a p found .0 ∙ ap told (sym fresh-is),
+    ap (λ (x : Result). withoutReads (x .answer)) is ∙ fresh-hit a p found .0 ∙ ap withoutReads (sym fresh-is),
     ap (λ (x : Result). x .memory) is ∙ fresh-hit a p found .1 ∙ sym left-is,
   )
   as-fresh (fills a f on found is fresh-is left-is) =
-      (ap (λ (x : Result). told (x .answer)) is ∙ ap told (sym fresh-is), ap (λ (x : Result). x .memory) is ∙ sym left-is)
+      (ap (λ (x : Result). withoutReads (x .answer)) is ∙ ap withoutReads (sym fresh-is), ap (λ (x : Result). x .memory) is ∙ sym left-is)
   as-fresh (Ways.drops r no-success fault is fresh-is left-is) =
-      (ap (λ (x : Result). told (x .answer)) is ∙ ap told (sym fresh-is), ap (λ (x : Result). x .memory) is ∙ sym left-is)
+      (ap (λ (x : Result). withoutReads (x .answer)) is ∙ ap withoutReads (sym fresh-is), ap (λ (x : Result). x .memory) is ∙ sym left-is)
 
 -- the first half
 pub first-half : FirstHalf
@@ -77,9 +78,9 @@ pub any-walk : AnyWalk
 any-walk now address access mode walking = go (goes (now .machine) (now .memory) address access mode)
   where
     go : Goes (now .machine) (now .memory) address access mode
-        → (gives now (Calls.translate address access mode) .answer
+        → (gives now (Call.Translate address access mode) .answer
         ≡ translated (now .machine .settings) address access mode (now .memory))
-        × (gives now (Calls.translate address access mode) .memory
+        × (gives now (Call.Translate address access mode) .memory
         ≡ translatedMemory (now .machine .settings) address access mode (now .memory))
     go (quiet r no-success no-fault is fresh-is left-is) =
         (ap (λ (x : Result). x .answer) is ∙ sym fresh-is, ap (λ (x : Result). x .memory) is ∙ sym left-is)

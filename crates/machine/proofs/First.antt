@@ -10,15 +10,16 @@ use lib.ListN.{length}
 use Rattle.word.specs.Bytes.{inside, stored, store}
 use Rattle.word.proofs.Laws.{store-length}
 use Rattle.settings.specs.declared.Settings.{Settings}
-use Rattle.settings.specs.Settings.{root, served}
+use Rattle.settings.specs.Settings.{served}
 use Rattle.address.specs.declared.VirtAddr.{VirtAddr}
 use Rattle.address.specs.Address.{tag, canonical}
-use Rattle.walk.specs.declared.Access.{Access}
+use Rattle.walk.specs.declared.Way.{Way}
 use Rattle.walk.specs.declared.Answer.{Answer}
 use Rattle.walk.specs.declared.Answer.the-variants as Answer
 use Rattle.walk.specs.declared.Asked.the-variants as Asked
 use Rattle.walk.specs.declared.Mapping.{Mapping}
 use Rattle.walk.specs.declared.Walked.the-variants as Walked
+use Rattle.walk.specs.Access.{writes}
 use Rattle.walk.specs.Walk.{walkPath, walkAnswer, walkMemory}
 use Rattle.walk.specs.Translate.{asked, answered}
 use Rattle.walk.proofs.Laws.{by-cases}
@@ -27,12 +28,14 @@ use Rattle.cache.specs.Places.{setIndex, filledIn}
 use Rattle.cache.specs.Whole.{held, emptyCache, fillCache, loadRoot}
 use Rattle.cache.specs.Whole as Whole
 use Rattle.cache.proofs.Laws.{empty-sixteen, fill-sixteen, drop-sixteen, root-sixteen}
+use Rattle.machine.specs.declared.Call.{Call}
+use Rattle.machine.specs.declared.Call.the-variants as Call
 use Rattle.machine.specs.declared.Machine.{Machine}
 use Rattle.machine.specs.Remember.{placeOf, hit}
-use Rattle.machine.specs.Calls.{Call, Result, step, withCache, withRoot, withSettings, done, started}
+use Rattle.machine.specs.Calls.{Result, step, withCache, withRoot, withSettings, done, started}
 use Rattle.machine.specs.Calls as Calls
 use Rattle.machine.specs.Series.{Event, call, stores, Stand, replaced, leads, run, start}
-use Rattle.machine.specs.History.{Latest, none, walk, walkOf, succeeded, succeeded, drops, kept, noted, notedEvent, latest}
+use Rattle.machine.specs.History.{Latest, none, walk, walkOf, succeeded, succeeded, drops, stillKnown, noted, notedEvent, latest}
 use Rattle.machine.proofs.Marking.{marks-length}
 use Rattle.machine.proofs.Places.{found-reads, found-memory, found-filled}
 use Rattle.machine.proofs.Hits.{Backs}
@@ -40,7 +43,7 @@ use Rattle.machine.proofs.Asked.{Due, due, served-wide}
 use Rattle.machine.proofs.Translations.{Goes, quiet, hits, fills, filledResult, goes}
 use Rattle.machine.proofs.Translations as Ways
 use Rattle.machine.proofs.Lists.{Has}
-use Rattle.machine.proofs.Sound.{Own, Sound, kept-all, noted-quiet, noted-other, noted-walk, dropped-own, dropped-any, emptied, filled-own, filled-other, rooted}
+use Rattle.machine.proofs.Sound.{Own, Sound, known-all, noted-quiet, noted-other, noted-walk, dropped-own, dropped-any, emptied, filled-own, filled-other, rooted}
 
 module _ (t size : ℕ) (m : Machine) (memory : List ℕ) (w : Latest) (sound : Sound t size (record { machine = m; memory = memory }) w) where
   abbrev s : Settings
@@ -75,10 +78,10 @@ module _ (t size : ℕ) (m : Machine) (memory : List ℕ) (w : Latest) (sound : 
 
   module _ (address : VirtAddr) (access mode : ℕ) where
     abbrev this : Call
-    this = Calls.translate address access mode
+    this = Call.Translate address access mode
 
     -- a fill
-    after-fill : (a : Access) (f : Mapping) → asked s address access mode ≡ Asked.On a → walkAnswer s address a memory ≡ Walked.Mapped f
+    after-fill : (a : Way) (f : Mapping) → asked s address access mode ≡ Asked.On a → walkAnswer s address a memory ≡ Walked.Mapped f
         → Next this (filledResult m memory address access mode a f)
     after-fill a f on is =
         record { sixteen = fill-sixteen new (m .cache) (sound .sixteen); as-long = long; backed = by-cases (eqb (tag address) t) own other }
@@ -100,7 +103,7 @@ module _ (t size : ℕ) (m : Machine) (memory : List ℕ) (w : Latest) (sound : 
 
         long : length left ≡ size
         long =
-            ap (λ (x : List ℕ). length x) (found-memory s address a memory f is) ∙ marks-length (a .write) (walkPath s address memory) memory
+            ap (λ (x : List ℕ). length x) (found-memory s address a memory f is) ∙ marks-length (writes a) (walkPath s address memory) memory
             ∙ sound .as-long
 
         success : succeeded r ≡ true
@@ -145,22 +148,22 @@ module _ (t size : ℕ) (m : Machine) (memory : List ℕ) (w : Latest) (sound : 
         subst (Next this) (sym is) (after-drop (tag address) (noted t s memory this r memory w) (noted-other t s memory memory address access mode r w))
 
   -- a store
-  after-store : (at value : ℕ) → Next (Calls.store at value) (step m memory (Calls.store at value))
+  after-store : (at value : ℕ) → Next (Call.Store at value) (step m memory (Call.Store at value))
   unfolding step Calls.storedResult
   after-store at value =
-      unchanged (Calls.store at value) (cond (inside memory at) done (Answer.Outside (record { 0 = at }) 0 0)) (stored memory at value) (long (inside memory at))
-      (kept-all t (Calls.store at value) (cond (inside memory at) done (Answer.Outside (record { 0 = at }) 0 0)) w (λ v. refl))
+      unchanged (Call.Store at value) (cond (inside memory at) done (Answer.Outside (record { 0 = at }) 0 0)) (stored memory at value) (long (inside memory at))
+      (known-all t (Call.Store at value) (cond (inside memory at) done (Answer.Outside (record { 0 = at }) 0 0)) w (λ v. refl))
     where
       long : (b : Bool) → length (cond b (store 8 memory at value) memory) ≡ length memory
       long true = store-length 8 memory at value
       long false = refl
 
   -- a root load
-  after-root : (value : ℕ) → Next (Calls.root value) (step m memory (Calls.root value))
-  unfolding step Calls.rootResult
+  after-root : (value : ℕ) → Next (Call.LoadRoot value) (step m memory (Call.LoadRoot value))
+  unfolding step Calls.rootLoaded
   after-root value = go (served (withRoot s value))
     where
-      go : (b : Bool) → Next (Calls.root value)
+      go : (b : Bool) → Next (Call.LoadRoot value)
           (record { answer = cond b done Answer.NotServed; machine = cond b (record { settings = withRoot s value; cache = loadRoot (m .cache) }) m; memory = memory })
       go true =
           record {
@@ -168,51 +171,51 @@ module _ (t size : ℕ) (m : Machine) (memory : List ℕ) (w : Latest) (sound : 
             as-long = sound .as-long;
             backed = rooted t size s value w done (m .cache) (sound .sixteen) refl (sound .backed);
           }
-      go false = unchanged (Calls.root value) Answer.NotServed memory refl (kept-all t (Calls.root value) Answer.NotServed w (λ v. refl))
+      go false = unchanged (Call.LoadRoot value) Answer.NotServed memory refl (known-all t (Call.LoadRoot value) Answer.NotServed w (λ v. refl))
 
   -- a settings load
-  after-settings : (cr0 cr4 efer width : ℕ) → Next (Calls.settings cr0 cr4 efer width) (step m memory (Calls.settings cr0 cr4 efer width))
-  unfolding step Calls.settingsResult
+  after-settings : (cr0 cr4 efer width : ℕ) → Next (Call.LoadSettings cr0 cr4 efer width) (step m memory (Call.LoadSettings cr0 cr4 efer width))
+  unfolding step Calls.settingsLoaded
   after-settings cr0 cr4 efer width = go (served (withSettings s cr0 cr4 efer width))
     where
-      go : (b : Bool) → Next (Calls.settings cr0 cr4 efer width)
+      go : (b : Bool) → Next (Call.LoadSettings cr0 cr4 efer width)
           (record { answer = cond b done Answer.NotServed; machine = cond b (record { settings = withSettings s cr0 cr4 efer width; cache = emptyCache }) m; memory = memory })
       go true =
           record {
             sixteen = empty-sixteen;
             as-long = sound .as-long;
             backed =
-                emptied t size (withSettings s cr0 cr4 efer width) (kept t (Calls.settings cr0 cr4 efer width) done w) (m .cache) (sound .sixteen);
+                emptied t size (withSettings s cr0 cr4 efer width) (stillKnown t (Call.LoadSettings cr0 cr4 efer width) done w) (m .cache) (sound .sixteen);
           }
       go false =
-          unchanged (Calls.settings cr0 cr4 efer width) Answer.NotServed memory refl
-          (kept-all t (Calls.settings cr0 cr4 efer width) Answer.NotServed w (λ v. refl))
+          unchanged (Call.LoadSettings cr0 cr4 efer width) Answer.NotServed memory refl
+          (known-all t (Call.LoadSettings cr0 cr4 efer width) Answer.NotServed w (λ v. refl))
 
   -- "drop all"
-  after-all : Next Calls.all (step m memory Calls.all)
-  unfolding step Calls.allResult
+  after-all : Next Call.DropAll (step m memory Call.DropAll)
+  unfolding step Calls.allDropped
   after-all =
-      record { sixteen = empty-sixteen; as-long = sound .as-long; backed = emptied t size s (kept t Calls.all done w) (m .cache) (sound .sixteen) }
+      record { sixteen = empty-sixteen; as-long = sound .as-long; backed = emptied t size s (stillKnown t Call.DropAll done w) (m .cache) (sound .sixteen) }
 
   -- "drop page"
-  after-page : (address : VirtAddr) → Next (Calls.page address) (step m memory (Calls.page address))
-  unfolding step Calls.pageResult
+  after-page : (address : VirtAddr) → Next (Call.DropPage address) (step m memory (Call.DropPage address))
+  unfolding step Calls.pageDropped
   after-page address = go (canonical address) refl
     where
-      go : (b : Bool) → canonical address ≡ b → Next (Calls.page address)
+      go : (b : Bool) → canonical address ≡ b → Next (Call.DropPage address)
           (record { answer = done; machine = cond b (withCache m (Whole.dropPage (tag address) (m .cache))) m; memory = memory })
       go true form =
-          after-drop (tag address) (kept t (Calls.page address) done w) (λ apart. kept-all t (Calls.page address) done w (λ v. rw (form, apart)))
-      go false form = unchanged (Calls.page address) done memory refl (kept-all t (Calls.page address) done w (λ v. rw form))
+          after-drop (tag address) (stillKnown t (Call.DropPage address) done w) (λ apart. known-all t (Call.DropPage address) done w (λ v. rw (form, apart)))
+      go false form = unchanged (Call.DropPage address) done memory refl (known-all t (Call.DropPage address) done w (λ v. rw form))
 
   -- every call
   after-call : (c : Call) → Next c (step m memory c)
-  after-call (Calls.translate address access mode) = translation address access mode (goes m memory address access mode)
-  after-call (Calls.store at value) = after-store at value
-  after-call (Calls.root value) = after-root value
-  after-call (Calls.settings cr0 cr4 efer width) = after-settings cr0 cr4 efer width
-  after-call (Calls.page address) = after-page address
-  after-call Calls.all = after-all
+  after-call (Call.Translate address access mode) = translation address access mode (goes m memory address access mode)
+  after-call (Call.Store at value) = after-store at value
+  after-call (Call.LoadRoot value) = after-root value
+  after-call (Call.LoadSettings cr0 cr4 efer width) = after-settings cr0 cr4 efer width
+  after-call (Call.DropPage address) = after-page address
+  after-call Call.DropAll = after-all
 
   -- guest stores
   after-stores : (other : List ℕ) → Sound t size (record { machine = m; memory = replaced memory other }) w
@@ -240,5 +243,5 @@ start-sound t s memory =
     record {
       sixteen = empty-sixteen;
       as-long = refl;
-      backed = emptied t (length memory) (started s .settings) none emptyCache empty-sixteen;
+      backed = emptied t (length memory) (started s .machine .settings) none emptyCache empty-sixteen;
     }

@@ -18,7 +18,7 @@ offset-split va l =
     ap (λ (k : ℕ). va .0 % 2 ^ k) bits ∙ ap (λ (x : ℕ). va .0 % x) (pow-add 2 (9 * l) 12)
     ∙ mod-mul (va .0) {m = 2 ^ (9 * l)} {c = 4096} (pow-pos (9 * l)) (lit< tt)
 
-piece : (x r y : ℕ) → ((x * 4096 + r % 4096) % 2 ^ 64 / 4096 * 4096 + y % 4096) % 2 ^ 64 ≡ (x * 4096 + y % 4096) % 2 ^ 64
+piece : (x r y : ℕ) → ((x * 4096 + r % 4096) % 2 ^ 64 / 4096 * 4096 + y % 2 ^ 12 % 4096) % 2 ^ 64 ≡ (x * 4096 + y % 4096) % 2 ^ 64
 piece x r y = omega arith
 
 sums : (k t r : ℕ) → k * 4096 + (t * 4096 + r) ≡ (k + t) * 4096 + r
@@ -26,7 +26,7 @@ sums k t r = omega arith
 
 -- every address of a page is found from the frame of any other
 pub same-frame : (first later : VirtAddr) (k size : ℕ) → 1 ≤ size → tag first ≡ tag later
-    → inFrame (frameOf (plus (record { 0 = k * 4096 }) (offset first size))) (later .0) ≡ plus (record { 0 = k * 4096 }) (offset later size)
+    → inFrame (frameOf (plus (record { 0 = k * 4096 }) (offset first size))) (offset later 1) ≡ plus (record { 0 = k * 4096 }) (offset later size)
 same-frame first later k zero low same = absurd (omega arith)
 same-frame first later k (suc l) low same =
     ap (λ (x : ℕ). record { 0 = x })

@@ -1,5 +1,5 @@
 -- A load judged by the settings that it would leave.
-use mathlib.Core.Path.{_≡_, refl, ap₂, _∙_}
+use mathlib.Core.Path.{_≡_, refl, ap, ap₂, _∙_}
 use mathlib.Core.Bool.{Bool, true, false, cond}
 use Rattle.settings.specs.declared.Settings.{Settings}
 use Rattle.settings.specs.declared.Service.the-variants.{Served, NotServed}
@@ -13,11 +13,11 @@ use Rattle.machine.specs.declared.Machine.{Machine}
 use Rattle.machine.specs.Calls.{done, loadAnswer, loaded, started}
 
 module _ (before : Machine) (s : Settings) (c : Cache) where
-  pub load-served : (r : Answer) → r ≡ done → judged s ≡ Served → (r ≡ loadAnswer s) × (record { settings = s; cache = c } ≡ loaded before s c)
-  load-served r is-done h = rw (judged-served s h) (is-done, refl)
+  pub load-served : (r : Answer) → r ≡ done → judged s ≡ Served → record { answer = r; machine = record { settings = s; cache = c } } ≡ loaded before s c
+  load-served r is-done h = rw (judged-served s h, is-done)
 
-  pub load-refused : judged s ≡ NotServed → (Answer.NotServed ≡ loadAnswer s) × (before ≡ loaded before s c)
-  load-refused h = rw (judged-not s h) (refl, refl)
+  pub load-refused : judged s ≡ NotServed → record { answer = Answer.NotServed; machine = before } ≡ loaded before s c
+  load-refused h = rw (judged-not s h)
 
 loaded-cond : (b : Bool) (s t : Settings) (c : Cache)
     → _≡_ {A = Machine} (cond b (record { settings = s; cache = c }) (record { settings = t; cache = c })) (record { settings = cond b s t; cache = c })
@@ -28,4 +28,4 @@ loaded-cond false s t c = refl
 pub start-law : (s t : Settings) → t ≡ initial → (c : Cache) → c ≡ emptyCache → loaded (record { settings = t; cache = c }) s c ≡ started s
 start-law s t the-initial c the-empty =
     ap₂ (λ (x : Settings) (z : Cache). loaded (record { settings = x; cache = z }) s z) the-initial the-empty
-    ∙ loaded-cond (served s) s initial emptyCache
+    ∙ ap (λ (m : Machine). record { answer = loadAnswer s; machine = m }) (loaded-cond (served s) s initial emptyCache)

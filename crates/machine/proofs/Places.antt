@@ -4,21 +4,23 @@ use native.Mathlib.Omega.{arith}
 use mathlib.Core.Path.{_≡_, refl, sym, ap, subst, _∙_}
 use mathlib.Core.Bool.{Bool, true, not, _&&_, _||_}
 use mathlib.Core.List.{List}
-use Rattle.word.specs.Bits.{bit}
+use Rattle.word.specs.Bits.{bit, includes}
 use Rattle.settings.specs.declared.Settings.{Settings}
 use Rattle.settings.specs.Settings.{nxe, pge, root}
 use Rattle.address.specs.declared.VirtAddr.{VirtAddr}
 use Rattle.address.specs.Address.{tag, canonical}
-use Rattle.walk.specs.declared.Access.{Access}
+use Rattle.entry.specs.Rights.{number}
+use Rattle.walk.specs.declared.Way.{Way}
 use Rattle.walk.specs.declared.Mapping.{Mapping}
 use Rattle.walk.specs.declared.Walked.the-variants.{Mapped}
-use Rattle.walk.specs.Access.{needsWrite, needed}
-use Rattle.walk.specs.Path.{Path, page, path, entries, endOf, reads, rights, marks, every}
+use Rattle.walk.specs.Access.{needsWrite, needed, writes, fetches}
+use Rattle.walk.specs.Path.{Path, entries, endOf, reads, rights, marks, every}
 use Rattle.walk.specs.Walk.{after, walkPath, walkAnswer, walkMemory}
-use Rattle.cache.specs.Places.{setIndex, filledIn, serves, given}
+use Rattle.cache.specs.Places.{hasG, setIndex, filledIn, serves}
 use Rattle.cache.proofs.Laws.{has-filled, has-serves}
-use Rattle.machine.specs.Remember.{wanted, placeOf}
+use Rattle.machine.specs.Remember.{withDirty, wanted, placeOf}
 use Rattle.machine.specs.History.{isGlobal, walkOf}
+use Rattle.machine.proofs.Flags.{given, flags-marked, flags-global, flags-each}
 use Rattle.machine.proofs.Frames.{frame-small, tag-small}
 use Rattle.machine.proofs.Paths.{All}
 use Rattle.machine.proofs.Reading.{Read, Ending, AtPage, IsPage, read-path}
@@ -33,16 +35,16 @@ pub record Alike (s s′ : Settings) : Type 0 where
   pub width-same : s .width ≡ s′ .width
 
 -- the root is at a multiple of 8
-pub root-aligned : (s : Settings) → root s % 8 ≡ 0
+pub root-aligned : (s : Settings) → root s .0 % 8 ≡ 0
 root-aligned s = omega arith
 
 -- the same is wanted of a place at every address of its page
-pub wanted-same : (s s′ : Settings) (first later : VirtAddr) (a : Access) → Alike s s′ → tag first ≡ tag later → wanted s first a ≡ wanted s′ later a
+pub wanted-same : (s s′ : Settings) (first later : VirtAddr) (a : Way) → Alike s s′ → tag first ≡ tag later → wanted s first a ≡ wanted s′ later a
 wanted-same s s′ first later a alike same =
-    λ i. record { tag = same i; write = a .write && (a .user || bit (alike .cr0-same i) 16); user = a .user; fetch = a .fetch; dirty = a .write }
+    λ i. record { tag = same i; flags = withDirty (number (writes a && (a .user || bit (alike .cr0-same i) 16)) (a .user) (fetches a)) (writes a) }
 
 -- A success and its place.
-module _ (s : Settings) (va : VirtAddr) (a : Access) (m : List ℕ) (found : Mapping) (h : walkAnswer s va a m ≡ Mapped found) where
+module _ (s : Settings) (va : VirtAddr) (a : Way) (m : List ℕ) (found : Mapping) (h : walkAnswer s va a m ≡ Mapped found) where
   -- the path, its end and its rights
   abbrev its-path : Path
   its-path = walkPath s va m
@@ -54,26 +56,26 @@ module _ (s : Settings) (va : VirtAddr) (a : Access) (m : List ℕ) (found : Map
   its-end = rw (its .at-end) tt
 
   its-reads : All (Read (nxe s) m) (entries its-path)
-  its-reads = read-path (s .width) (nxe s) m va 4 (root s) (root-aligned s) its-end .0
+  its-reads = read-path (s .width) (nxe s) m va 4 (root s .0) (root-aligned s) its-end .0
 
   pub its-ending : Ending (its .last) (its .base)
-  its-ending = subst (AtPage (nxe s) m) (its .at-end) (read-path (s .width) (nxe s) m va 4 (root s) (root-aligned s) its-end .1) .1
+  its-ending = subst (AtPage (nxe s) m) (its .at-end) (read-path (s .width) (nxe s) m va 4 (root s .0) (root-aligned s) its-end .1) .1
 
   -- a success read something
   pub found-reads : 1 ≤ found .reads
   found-reads = rw (its .is-found) (reads-some its-path its-end)
 
   -- the memory that a success leaves
-  pub found-memory : walkMemory s va a m ≡ marks (a .write) its-path m
+  pub found-memory : walkMemory s va a m ≡ marks (writes a) its-path m
   unfolding after
-  found-memory = ap (after (a .write) its-path m) h
+  found-memory = ap (after (writes a) its-path m) h
 
   -- a success's place is filled
   pub found-filled : canonical va ≡ true → filledIn (setIndex (tag va)) (placeOf s va a found) ≡ true
   found-filled form =
       has-filled (setIndex (tag va)) (placeOf s va a found)
       (rw (its .is-found) (record {
-        is-marked = refl;
+        is-marked = flags-marked (bit (rights its-path) 0) (bit (rights its-path) 1) (bit (rights its-path) 2) (bit (its .last .value) 6 || writes a) (bit (its .last .value) 8 && pge s);
         tag-below = tag-small va form;
         own-set = refl;
         frame-below = frame-small (its .last .value) (its .last .level) va (its .base) (its-ending .level-from) (its-ending .level-to) (its-ending .base-is);
@@ -95,19 +97,29 @@ module _ (s : Settings) (va : VirtAddr) (a : Access) (m : List ℕ) (found : Map
   pub found-serves : (s′ : Settings) (later : VirtAddr) → Alike s s′ → tag va ≡ tag later → serves (wanted s′ later a) (placeOf s va a found) ≡ true
   found-serves s′ later alike same =
       rw (← (wanted-same s s′ va later a alike same))
-      (has-serves (wanted s va a) (placeOf s va a found) (rw (its .is-found) (record {
-        same-tag = refl;
-        has-write = rw (number-write all-write all-user all-fetch) (each .0);
-        has-user = rw (number-user all-write all-user all-fetch) (each .1);
-        has-fetch = rw (number-fetch all-write all-user all-fetch) (each .2);
-        has-dirty = dirty-given (bit (its .last .value) 6) (a .write);
-      })))
+      (has-serves (wanted s va a) (placeOf s va a found) (record { same-tag = refl; has-flags = its-flags }))
     where
-      each : (given (needsWrite s a) all-write ≡ true) × (given (a .user) all-user ≡ true) × (given (a .fetch) all-fetch ≡ true)
+      each : (given (needsWrite s a) all-write ≡ true) × (given (a .user) all-user ≡ true) × (given (fetches a) all-fetch ≡ true)
       each =
-          allow-given (needsWrite s a) (a .user) (a .fetch) (nxe s) all-write all-user all-fetch
+          allow-given (needsWrite s a) (a .user) (fetches a) (nxe s) all-write all-user all-fetch
           (none-disabled (nxe s) m (entries its-path) its-reads) (its .allowed)
 
+      its-flags : includes (wanted s va a .flags) (placeOf s va a found .flags) ≡ true
+      its-flags =
+          flags-each (needsWrite s a) (a .user) (fetches a) (writes a) (bit (found .rights) 0) (bit (found .rights) 1) (bit (found .rights) 2)
+          (bit (found .last) 6 || writes a) (bit (found .last) 8 && pge s)
+          ∙ rw (
+            ap (λ (f : Mapping). bit (f .rights) 0) (its .is-found) ∙ number-write all-write all-user all-fetch,
+            ap (λ (f : Mapping). bit (f .rights) 1) (its .is-found) ∙ number-user all-write all-user all-fetch,
+            ap (λ (f : Mapping). bit (f .rights) 2) (its .is-found) ∙ number-fetch all-write all-user all-fetch,
+            each .0,
+            each .1,
+            each .2,
+            dirty-given (bit (found .last) 6) (writes a),
+          )
+
   -- its G is that of the walk's page
-  pub found-global : (after : List ℕ) → placeOf s va a found .global ≡ walkOf s va m after .global
-  found-global after = ap (λ (f : Mapping). bit (f .last) 8 && pge s) (its .is-found) ∙ ap (isGlobal s) (sym (its .at-end))
+  pub found-global : (left : List ℕ) → hasG (placeOf s va a found) ≡ walkOf s va m left .global
+  found-global left =
+      flags-global (bit (found .rights) 0) (bit (found .rights) 1) (bit (found .rights) 2) (bit (found .last) 6 || writes a) (bit (found .last) 8 && pge s)
+      ∙ ap (λ (f : Mapping). bit (f .last) 8 && pge s) (its .is-found) ∙ ap (isGlobal s) (sym (its .at-end))

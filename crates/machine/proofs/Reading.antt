@@ -15,7 +15,7 @@ use Rattle.address.specs.declared.VirtAddr.{VirtAddr}
 use Rattle.address.specs.Address.{index, pageBits}
 use Rattle.entry.specs.declared.Says.{Says}
 use Rattle.entry.specs.declared.Says.the-variants as Says
-use Rattle.entry.specs.Says.{says, told, isPage, reserved as isReserved, aboveWidth, executeDisabled, sizeTooLarge, insidePage, largest, tableBase, pageBase}
+use Rattle.entry.specs.Says.{says, saysBy, isPage, reserved as isReserved, aboveWidth, executeDisabled, sizeTooLarge, insidePage, largest, tableBase, pageBase}
 use Rattle.walk.specs.Path.{Path, End, Entry, ends, outside, missing, reserved, page, onward, level, path, entries, endOf}
 use Rattle.machine.proofs.Paths.{All}
 
@@ -50,20 +50,20 @@ or-false : (a b : Bool) → (a || b) ≡ false → (a ≡ false) × (b ≡ false
 or-false true b h = (h, cc)
 or-false false b h = (refl, h)
 
--- what is told of an entry that is not refused
-told-table : (present met large : Bool) (l v : ℕ) (t : PhysAddr) → told present met large l v ≡ Says.Table t
+-- what an entry says that is not refused
+says-table : (present met large : Bool) (l v : ℕ) (t : PhysAddr) → saysBy present met large l v ≡ Says.Table t
     → (met ≡ false) × (large ≡ false) × (tableBase v ≡ t)
-told-table true true large l v t h = (cc, cc, cc)
-told-table true false true l v t h = (cc, cc, cc)
-told-table true false false l v t h = (refl, refl, cc)
-told-table false met large l v t h = (cc, cc, cc)
+says-table true true large l v t h = (cc, cc, cc)
+says-table true false true l v t h = (cc, cc, cc)
+says-table true false false l v t h = (refl, refl, cc)
+says-table false met large l v t h = (cc, cc, cc)
 
-told-page : (present met large : Bool) (l v : ℕ) (t : PhysAddr) → told present met large l v ≡ Says.Page t
+says-page : (present met large : Bool) (l v : ℕ) (t : PhysAddr) → saysBy present met large l v ≡ Says.Page t
     → (met ≡ false) × (large ≡ true) × (pageBase l v ≡ t)
-told-page true true large l v t h = (cc, cc, cc)
-told-page true false true l v t h = (refl, refl, cc)
-told-page true false false l v t h = (cc, cc, cc)
-told-page false met large l v t h = (cc, cc, cc)
+says-page true true large l v t h = (cc, cc, cc)
+says-page true false true l v t h = (refl, refl, cc)
+says-page true false false l v t h = (cc, cc, cc)
+says-page false met large l v t h = (cc, cc, cc)
 
 -- where NXE is clear, an entry that is not reserved has XD clear
 clear-xd : (above disabled : Bool) (nxe : Bool) (rest : Bool) → ((above || (not nxe && disabled)) || rest) ≡ false → nxe ≡ false → disabled ≡ false
@@ -106,7 +106,7 @@ module _ (width : ℕ) (nxe : Bool) (m : List ℕ) where
   onward-read l at v Says.Missing rest low is in-memory is-aligned tells below ok = absurd ok
   onward-read l at v Says.Reserved rest low is in-memory is-aligned tells below ok = absurd ok
   onward-read l at v (Says.Page base) rest low is in-memory is-aligned tells below ok =
-      let h = told-page (bit v 0) (isReserved width nxe l v) (isPage l v) l v base tells in
+      let h = says-page (bit v 0) (isReserved width nxe l v) (isPage l v) l v base tells in
       let r = entry-read l at v (sizeTooLarge l v || insidePage l v) is in-memory is-aligned (h .0) in
       let end : Ending (record { level = l; address = at; value = v }) (base .0) =
       record {
@@ -116,7 +116,7 @@ module _ (width : ℕ) (nxe : Bool) (m : List ℕ) where
       } in
       ((r, tt), (r, end))
   onward-read l at v (Says.Table base) rest low is in-memory is-aligned tells below ok =
-      let h = told-table (bit v 0) (isReserved width nxe l v) (isPage l v) l v base tells in
+      let h = says-table (bit v 0) (isReserved width nxe l v) (isPage l v) l v base tells in
       let r = entry-read l at v (sizeTooLarge l v || insidePage l v) is in-memory is-aligned (h .0) in
       let table : base .0 ≡ field v 12 40 * 4096 = ap (λ (b : PhysAddr). b .0) (sym (h .2)) in
       let b = below (base .0) (omega arith) ok in

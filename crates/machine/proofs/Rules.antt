@@ -7,8 +7,8 @@ use Rattle.word.specs.Bits.{bit}
 use Rattle.entry.specs.Rights.{number, allow}
 use Rattle.entry.proofs.Meeting.{allow-each}
 use Rattle.cache.proofs.Lists.{and-true}
-use Rattle.cache.specs.Places.{given}
 use Rattle.walk.specs.Path.{Entry, every}
+use Rattle.machine.proofs.Flags.{given}
 use Rattle.machine.proofs.Paths.{All}
 use Rattle.machine.proofs.Reading.{Read}
 

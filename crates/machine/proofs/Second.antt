@@ -8,7 +8,7 @@ use lib.ListN.{length, take}
 use Rattle.settings.specs.declared.Settings.{Settings}
 use Rattle.address.specs.declared.VirtAddr.{VirtAddr}
 use Rattle.address.specs.Address.{tag, offset}
-use Rattle.walk.specs.declared.Access.{Access}
+use Rattle.walk.specs.declared.Way.{Way}
 use Rattle.walk.specs.declared.Asked.the-variants as Asked
 use Rattle.walk.specs.declared.Mapping.{Mapping}
 use Rattle.walk.specs.declared.Walked.the-variants as Walked
@@ -16,11 +16,14 @@ use Rattle.walk.specs.Walk.{walkAnswer, walkMemory}
 use Rattle.walk.specs.Translate.{asked, answered, numbers}
 use Rattle.cache.specs.declared.Found.the-variants as Found
 use Rattle.cache.specs.declared.Place.{Place}
-use Rattle.cache.specs.Places.{setIndex, filledIn, spares}
+use Rattle.cache.specs.Places.{hasG, setIndex, filledIn, spares}
 use Rattle.cache.specs.Sets.{keep}
-use Rattle.cache.specs.Whole.{held, findCache, fillCache}
-use Rattle.cache.proofs.Laws.{Sixteen, fill-sixteen, held-fill}
+use Rattle.cache.specs.Whole.{held, fillCache}
+use Rattle.cache.proofs.Laws.{findCache, Sixteen, fill-sixteen, held-fill}
+use Rattle.machine.specs.declared.Call.{Call}
+use Rattle.machine.specs.declared.Call.the-variants as Call
 use Rattle.machine.specs.declared.Machine.{Machine}
+use Rattle.machine.specs.Probe.{probed}
 use Rattle.machine.specs.Remember.{wanted, placeOf, hit}
 use Rattle.machine.specs.Calls.{Result, step, withCache}
 use Rattle.machine.specs.Calls as Calls
@@ -36,17 +39,17 @@ use Rattle.machine.proofs.First.{after-series, start-sound}
 use Rattle.machine.proofs.Staying.{Remembers, remembered, found-again}
 
 -- a translation that finds a place
-hit-result : (m : Machine) (memory : List ℕ) (address : VirtAddr) (access mode : ℕ) (a : Access) (p : Place)
+hit-result : (m : Machine) (memory : List ℕ) (address : VirtAddr) (access mode : ℕ) (a : Way) (p : Place)
     → asked (m .settings) address access mode ≡ Asked.On a → findCache (wanted (m .settings) address a) (m .cache) ≡ Found.At p
-    → step m memory (Calls.translate address access mode) .answer ≡ hit address p
-unfolding step Calls.translated
+    → step m memory (Call.Translate address access mode) .answer ≡ hit address p
+unfolding step Calls.translated probed
 hit-result m memory address access mode a p on found = rw (on, found)
 
 -- the numbers of a hit on the place of an answer
-piece : (x y : ℕ) → (x % 2 ^ 64 / 4096 * 4096 + y % 4096) % 2 ^ 64 ≡ x % 2 ^ 64 / 4096 * 4096 + y % 4096
+piece : (x y : ℕ) → (x % 2 ^ 64 / 4096 * 4096 + y % 2 ^ 12 % 4096) % 2 ^ 64 ≡ x % 2 ^ 64 / 4096 * 4096 + y % 4096
 piece x y = omega arith
 
-again-numbers : (s : Settings) (first later : VirtAddr) (a : Access) (f : Mapping)
+again-numbers : (s : Settings) (first later : VirtAddr) (a : Way) (f : Mapping)
     → numbers (hit later (placeOf s first a f)) ≡ again (numbers (answered s first a (Walked.Mapped f))) later
 again-numbers s first later a f =
     ap (λ (x : ℕ). record { answer = 0; value = x; detail = f .size; reads = 0 }) (piece (f .base .0 + offset first (f .size)) (later .0))
@@ -61,10 +64,10 @@ module _ (now : Stand) (sixteen : Sixteen (now .machine .cache)) (first later : 
   Promise r =
       succeeded (r .answer) ≡ true
       → Between (tag first) (walkOf s first (now .memory) (r .memory)) pages (record { machine = r .machine; memory = r .memory }) between
-      → numbers (gives (run (record { machine = r .machine; memory = r .memory }) between) (Calls.translate later access mode) .answer)
+      → numbers (gives (run (record { machine = r .machine; memory = r .memory }) between) (Call.Translate later access mode) .answer)
       ≡ again (numbers (r .answer)) later
 
-  after-fill : (a : Access) (f : Mapping) → asked s first access mode ≡ Asked.On a → walkAnswer s first a (now .memory) ≡ Walked.Mapped f
+  after-fill : (a : Way) (f : Mapping) → asked s first access mode ≡ Asked.On a → walkAnswer s first a (now .memory) ≡ Walked.Mapped f
       → Promise (filledResult (now .machine) (now .memory) first access mode a f)
   after-fill a f on found success spared =
       ap numbers (hit-result (end .machine) (end .memory) later access mode a (placeOf s first a f) on-later find-later)
@@ -79,7 +82,7 @@ module _ (now : Stand) (sixteen : Sixteen (now .machine .cache)) (first later : 
       its-walk : Walk
       its-walk = walkOf s first (now .memory) (walkMemory s first a (now .memory))
 
-      its-global : placeOf s first a f .global ≡ its-walk .global
+      its-global : hasG (placeOf s first a f) ≡ its-walk .global
       its-global = found-global s first a (now .memory) f found (walkMemory s first a (now .memory))
 
       is-due : Due s first access mode a
@@ -117,7 +120,7 @@ module _ (now : Stand) (sixteen : Sixteen (now .machine .cache)) (first later : 
           found-again (tag first) pages at-most (placeOf s first a f) refl its-walk its-global s (end .machine) (wanted (end .machine .settings) later a) same
           (found-serves s first a (now .memory) f found (end .machine .settings) later (at-end .alike) (sym same)) at-end
 
-  promised : Goes (now .machine) (now .memory) first access mode → Promise (gives now (Calls.translate first access mode))
+  promised : Goes (now .machine) (now .memory) first access mode → Promise (gives now (Call.Translate first access mode))
   promised (quiet r no-success no-fault is fresh-is left-is) =
       subst Promise (sym is) (λ success. contradiction success no-success)
   promised (hits a p found is fresh-is left-is) = subst Promise (sym is) (λ success. contradiction success refl)

@@ -11,7 +11,7 @@ use Rattle.cache.specs.declared.Place.{Place}
 use Rattle.cache.specs.Places.{otherTag}
 use Rattle.cache.specs.Sets.{keep, pick}
 use Rattle.cache.proofs.Lists.{Each, each-kept}
-use Rattle.machine.specs.Demand3.{among}
+use Rattle.machine.specs.Demand1.{among}
 
 -- the pages of a list without one
 without : ℕ → List ℕ → List ℕ

@@ -7,7 +7,6 @@ use mathlib.Core.List.{List, _∷_}
 use lib.Dec.{eqb}
 use lib.ListN.{length}
 use Rattle.settings.specs.declared.Settings.{Settings}
-use Rattle.settings.specs.Settings.{root}
 use Rattle.address.specs.declared.VirtAddr.{VirtAddr}
 use Rattle.address.specs.Address.{tag}
 use Rattle.walk.specs.declared.Answer.{Answer}
@@ -18,11 +17,12 @@ use Rattle.cache.specs.Sets.{keep}
 use Rattle.cache.specs.Whole.{held, emptyCache, fillCache, loadRoot}
 use Rattle.cache.specs.Whole as Whole
 use Rattle.cache.proofs.Laws.{Sixteen, held-empty, held-fill, held-fill-other, held-drop, held-root, drop-takes, fill-takes, root-takes}
-use Rattle.machine.specs.Calls.{Call, withRoot}
-use Rattle.machine.specs.Calls as Calls
+use Rattle.machine.specs.declared.Call.{Call}
+use Rattle.machine.specs.declared.Call.the-variants as Call
+use Rattle.machine.specs.Calls.{withRoot}
 use Rattle.machine.specs.Series.{Stand}
 use Rattle.machine.specs.Demand1.{faulted}
-use Rattle.machine.specs.History.{Walk, Latest, none, walk, walkOf, succeeded, accepted, drops, kept, noted}
+use Rattle.machine.specs.History.{Walk, Latest, none, walk, walkOf, succeeded, accepted, drops, stillKnown, noted}
 use Rattle.machine.proofs.Places.{Alike}
 use Rattle.machine.proofs.Hits.{Backs, backs-global}
 use Rattle.machine.proofs.Lists.{Has, has-keep, has-take, keep-has}
@@ -45,23 +45,23 @@ pub record Sound (t size : ℕ) (now : Stand) (w : Latest) : Type 0 where
 -- What is known of a page after a call.
 
 -- a call that drops nothing leaves what is known
-pub kept-all : (t : ℕ) (c : Call) (r : Answer) (w : Latest) → ((v : Walk) → drops t v c r ≡ false) → kept t c r w ≡ w
-kept-all t c r none h = refl
-kept-all t c r (walk v) h = ap (λ (b : Bool). cond b none (walk v)) (h v)
+pub known-all : (t : ℕ) (c : Call) (r : Answer) (w : Latest) → ((v : Walk) → drops t v c r ≡ false) → stillKnown t c r w ≡ w
+known-all t c r none h = refl
+known-all t c r (walk v) h = ap (λ (b : Bool). cond b none (walk v)) (h v)
 
 module _ (t : ℕ) (s : Settings) (before after : List ℕ) (address : VirtAddr) (access mode : ℕ) (r : Answer) (w : Latest) where
   abbrev this : Call
-  this = Calls.translate address access mode
+  this = Call.Translate address access mode
 
   pub noted-quiet : succeeded r ≡ false → faulted r ≡ false → noted t s before this r after w ≡ w
   noted-quiet no-success no-fault = go (eqb (tag address) t) refl
     where
-      go : (b : Bool) → eqb (tag address) t ≡ b → cond (b && succeeded r) (walk (walkOf s address before after)) (kept t this r w) ≡ w
-      go true e = rw no-success (kept-all t this r w (λ v. rw (e, no-fault)))
-      go false e = kept-all t this r w (λ v. rw e)
+      go : (b : Bool) → eqb (tag address) t ≡ b → cond (b && succeeded r) (walk (walkOf s address before after)) (stillKnown t this r w) ≡ w
+      go true e = rw no-success (known-all t this r w (λ v. rw (e, no-fault)))
+      go false e = known-all t this r w (λ v. rw e)
 
   pub noted-other : eqb (tag address) t ≡ false → noted t s before this r after w ≡ w
-  noted-other e = rw e (kept-all t this r w (λ v. rw e))
+  noted-other e = rw e (known-all t this r w (λ v. rw e))
 
   pub noted-walk : eqb (tag address) t ≡ true → succeeded r ≡ true → noted t s before this r after w ≡ walk (walkOf s address before after)
   noted-walk e success = rw (e, success)
@@ -75,13 +75,13 @@ module _ (t size : ℕ) (s : Settings) (w : Latest) (c : Cache) (sixteen : Sixte
   -- a drop of the page leaves none of its places
   pub dropped-own : Has (Own t s size w) (held (setIndex t) (Whole.dropPage t c))
   dropped-own =
-      subst (Has (Own t s size w)) (sym (held-drop t c (setIndex t) sixteen))
+      subst (Has (Own t s size w)) (sym (held-drop t c (setIndex t)))
       (keep-has (otherTag t) (λ p other same. contradiction other (drop-takes t p same)) (held (setIndex t) c))
 
   -- a drop of any page leaves what is backed
   pub dropped-any : (u : ℕ) → Has (Own t s size w) (held (setIndex t) c) → Has (Own t s size w) (held (setIndex t) (Whole.dropPage u c))
   dropped-any u h =
-      subst (Has (Own t s size w)) (sym (held-drop u c (setIndex t) sixteen)) (has-keep (otherTag u) (λ p other own. own) (held (setIndex t) c) h)
+      subst (Has (Own t s size w)) (sym (held-drop u c (setIndex t))) (has-keep (otherTag u) (λ p other own. own) (held (setIndex t) c) h)
 
   -- nothing is held in the empty cache
   pub emptied : Has (Own t s size w) (held (setIndex t) emptyCache)
@@ -137,19 +137,19 @@ root-alike s value = record { cr0-same = refl; cr4-same = refl; efer-same = refl
 
 -- a root load leaves what is backed by a walk of a G page, and forgets the walk of any other
 pub rooted : (t size : ℕ) (s : Settings) (value : ℕ) (w : Latest) (r : Answer) (c : Cache) → Sixteen c → accepted r ≡ true → Has (Own t s size w) (held (setIndex t) c)
-    → Has (Own t (withRoot s value) size (kept t (Calls.root value) r w)) (held (setIndex t) (loadRoot c))
+    → Has (Own t (withRoot s value) size (stillKnown t (Call.LoadRoot value) r w)) (held (setIndex t) (loadRoot c))
 rooted t size s value w r c sixteen ok h =
-    subst (Has (Own t (withRoot s value) size (kept t (Calls.root value) r w))) (sym (held-root c (setIndex t) sixteen))
+    subst (Has (Own t (withRoot s value) size (stillKnown t (Call.LoadRoot value) r w))) (sym (held-root c (setIndex t) sixteen))
     (has-keep stays (stay w) (held (setIndex t) c) h)
   where
-    stay : (w : Latest) (p : Place) → stays p ≡ true → Own t s size w p → Own t (withRoot s value) size (kept t (Calls.root value) r w) p
+    stay : (w : Latest) (p : Place) → stays p ≡ true → Own t s size w p → Own t (withRoot s value) size (stillKnown t (Call.LoadRoot value) r w) p
     stay none p is-global own same = own same
     stay (walk v) p is-global own same = go (v .global) refl (own same)
       where
-        spared : v .global ≡ true → drops t v (Calls.root value) r ≡ false
+        spared : v .global ≡ true → drops t v (Call.LoadRoot value) r ≡ false
         spared e = rw ok (ap not e)
 
-        go : (b : Bool) → v .global ≡ b → Backs s size v p → Backed (withRoot s value) size (kept t (Calls.root value) r (walk v)) p
+        go : (b : Bool) → v .global ≡ b → Backs s size v p → Backed (withRoot s value) size (stillKnown t (Call.LoadRoot value) r (walk v)) p
         go true e k =
             subst (λ (d : Bool). Backed (withRoot s value) size (cond d none (walk v)) p) (sym (spared e))
             (alike-backs s (withRoot s value) size v p (root-alike s value) k)

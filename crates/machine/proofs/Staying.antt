@@ -19,19 +19,22 @@ use Rattle.cache.specs.declared.Cache.{Cache}
 use Rattle.cache.specs.declared.Found.the-variants as Found
 use Rattle.cache.specs.declared.Place.{Place}
 use Rattle.cache.specs.declared.Wanted.{Wanted}
-use Rattle.cache.specs.Places.{setIndex, filledIn, otherTag, spares, stays, serves}
+use Rattle.cache.specs.Places.{hasG, setIndex, filledIn, otherTag, spares, stays, serves}
 use Rattle.cache.specs.Sets.{keep, firstServing}
-use Rattle.cache.specs.Whole.{held, emptyCache, findCache, fillCache, loadRoot}
+use Rattle.cache.specs.Whole.{held, emptyCache, fillCache, loadRoot}
 use Rattle.cache.specs.Whole as Whole
-use Rattle.cache.proofs.Laws.{Sixteen, fill-sixteen, drop-sixteen, root-sixteen, held-fill, held-fill-other, held-drop, held-root, drop-leaves, fill-leaves, root-takes, find-cache, other-serves-not}
+use Rattle.cache.proofs.Laws.{findCache, Sixteen, fill-sixteen, drop-sixteen, root-sixteen, held-fill, held-fill-other, held-drop, held-root, drop-leaves, fill-leaves, root-takes, find-cache, other-serves-not}
 use Rattle.cache.proofs.Lists.{Each, each-keep, each-kept, each-weaker, passed-by}
+use Rattle.machine.specs.declared.Call.{Call}
+use Rattle.machine.specs.declared.Call.the-variants as Call
 use Rattle.machine.specs.declared.Machine.{Machine}
 use Rattle.machine.specs.Remember.{placeOf}
-use Rattle.machine.specs.Calls.{Call, Result, step, withCache, withRoot, withSettings, done}
+use Rattle.machine.specs.Calls.{Result, step, withCache, withRoot, withSettings, done}
 use Rattle.machine.specs.Calls as Calls
 use Rattle.machine.specs.Series.{Event, call, stores, Stand, leads, run}
 use Rattle.machine.specs.History.{Walk, asks, drops}
-use Rattle.machine.specs.Demand3.{others, among, counted, Between}
+use Rattle.machine.specs.Demand1.{among}
+use Rattle.machine.specs.Demand3.{others, counted, Between}
 use Rattle.machine.proofs.Places.{Alike, found-reads, found-filled}
 use Rattle.machine.proofs.Asked.{due}
 use Rattle.machine.proofs.Translations.{Goes, quiet, hits, fills, goes}
@@ -53,7 +56,7 @@ spared-others : (q : Place) (ps : List Place) → Each (otherTag (q .tag)) (keep
 unfolding spares
 spared-others q ps = each-keep (otherTag (q .tag)) ps
 
-module _ (t : ℕ) (pages : List ℕ) (at-most : length pages ≤ others) (p : Place) (own : p .tag ≡ t) (w : Walk) (same-global : p .global ≡ w .global) where
+module _ (t : ℕ) (pages : List ℕ) (at-most : length pages ≤ others) (p : Place) (own : p .tag ≡ t) (w : Walk) (same-global : hasG p ≡ w .global) where
   -- a filter of the set that keeps the place
   filtered : (test : Place → Bool) (c c′ : Cache) → test p ≡ true → Sixteen c′ → held (setIndex t) c′ ≡ keep test (held (setIndex t) c)
       → Stays t pages p c → Stays t pages p c′
@@ -71,10 +74,10 @@ module _ (t : ℕ) (pages : List ℕ) (at-most : length pages ≤ others) (p : P
   drop-stays : (u : ℕ) (c : Cache) → (t ≡ u → ⊥) → Stays t pages p c → Stays t pages p (Whole.dropPage u c)
   drop-stays u c other k =
       filtered (otherTag u) c (Whole.dropPage u c) (drop-leaves u p (λ e. other (sym own ∙ e))) (drop-sixteen u c (k .sixteen))
-      (held-drop u c (setIndex t) (k .sixteen)) k
+      (held-drop u c (setIndex t)) k
 
   -- a root load, where the page is G
-  root-stays : (c : Cache) → p .global ≡ true → Stays t pages p c → Stays t pages p (loadRoot c)
+  root-stays : (c : Cache) → hasG p ≡ true → Stays t pages p c → Stays t pages p (loadRoot c)
   root-stays c is-global k =
       filtered stays c (loadRoot c) (root-takes p ∙ is-global) (root-sixteen c) (held-root c (setIndex t) (k .sixteen)) k
 
@@ -133,13 +136,13 @@ module _ (t : ℕ) (pages : List ℕ) (at-most : length pages ≤ others) (p : P
           sym (ap₂ (λ (a b : Bool). not (a && b) || among u pages) yes-it (eq-eqb (setIndex u) (setIndex t) same)) ∙ h
 
       translation : (address : VirtAddr) (access mode : ℕ) → Goes m memory address access mode
-          → Spared (Calls.translate address access mode) (step m memory (Calls.translate address access mode))
+          → Spared (Call.Translate address access mode) (step m memory (Call.Translate address access mode))
       translation address access mode (quiet r no-success no-fault is fresh-is left-is) =
-          subst (Spared (Calls.translate address access mode)) (sym is) (λ no-drop not-asked counting. k)
+          subst (Spared (Call.Translate address access mode)) (sym is) (λ no-drop not-asked counting. k)
       translation address access mode (hits a q found is fresh-is left-is) =
-          subst (Spared (Calls.translate address access mode)) (sym is) (λ no-drop not-asked counting. k)
+          subst (Spared (Call.Translate address access mode)) (sym is) (λ no-drop not-asked counting. k)
       translation address access mode (fills a f on found is fresh-is left-is) =
-          subst (Spared (Calls.translate address access mode)) (sym is)
+          subst (Spared (Call.Translate address access mode)) (sym is)
           (λ no-drop not-asked counting.
           with-cache m (fillCache (placeOf (m .settings) address a f) (m .cache)) k
           (fill-stays (placeOf (m .settings) address a f) (m .cache) (λ e. eqb-false (tag address) t not-asked (sym e))
@@ -148,21 +151,21 @@ module _ (t : ℕ) (pages : List ℕ) (at-most : length pages ≤ others) (p : P
           (ap not (ne-eqb (f .reads) 0 (λ e. omega (arith, found-reads (m .settings) address a memory f found)))) counting)
           (k .stays-in)))
       translation address access mode (Ways.drops r no-success fault is fresh-is left-is) =
-          subst (Spared (Calls.translate address access mode)) (sym is)
+          subst (Spared (Call.Translate address access mode)) (sym is)
           (λ no-drop not-asked counting.
           with-cache m (Whole.dropPage (tag address) (m .cache)) k
           (drop-stays (tag address) (m .cache) (λ e. eqb-false (tag address) t not-asked (sym e)) (k .stays-in)))
 
-      after-store : (at value : ℕ) → Spared (Calls.store at value) (step m memory (Calls.store at value))
+      after-store : (at value : ℕ) → Spared (Call.Store at value) (step m memory (Call.Store at value))
       unfolding step Calls.storedResult
       after-store at value = λ no-drop not-asked counting. k
 
-      after-root : (value : ℕ) → Spared (Calls.root value) (step m memory (Calls.root value))
-      unfolding step Calls.rootResult
+      after-root : (value : ℕ) → Spared (Call.LoadRoot value) (step m memory (Call.LoadRoot value))
+      unfolding step Calls.rootLoaded
       after-root value = go (served (withRoot (m .settings) value)) refl
         where
           go : (b : Bool) → served (withRoot (m .settings) value) ≡ b
-              → Spared (Calls.root value) (record {
+              → Spared (Call.LoadRoot value) (record {
                 answer = cond b done Answer.NotServed;
                 machine = cond b (record { settings = withRoot (m .settings) value; cache = loadRoot (m .cache) }) m;
                 memory = memory;
@@ -180,11 +183,11 @@ module _ (t : ℕ) (pages : List ℕ) (at-most : length pages ≤ others) (p : P
               }
           go false ok = λ no-drop not-asked counting. k
 
-      after-settings : (cr0 cr4 efer width : ℕ) → Spared (Calls.settings cr0 cr4 efer width) (step m memory (Calls.settings cr0 cr4 efer width))
-      unfolding step Calls.settingsResult
+      after-settings : (cr0 cr4 efer width : ℕ) → Spared (Call.LoadSettings cr0 cr4 efer width) (step m memory (Call.LoadSettings cr0 cr4 efer width))
+      unfolding step Calls.settingsLoaded
       after-settings cr0 cr4 efer width = go (served (withSettings (m .settings) cr0 cr4 efer width))
         where
-          go : (b : Bool) → Spared (Calls.settings cr0 cr4 efer width) (record {
+          go : (b : Bool) → Spared (Call.LoadSettings cr0 cr4 efer width) (record {
             answer = cond b done Answer.NotServed;
             machine = cond b (record { settings = withSettings (m .settings) cr0 cr4 efer width; cache = emptyCache }) m;
             memory = memory;
@@ -192,34 +195,34 @@ module _ (t : ℕ) (pages : List ℕ) (at-most : length pages ≤ others) (p : P
           go true = λ no-drop not-asked counting. absurd (false≢true (sym no-drop))
           go false = λ no-drop not-asked counting. k
 
-      after-page : (address : VirtAddr) → Spared (Calls.page address) (step m memory (Calls.page address))
-      unfolding step Calls.pageResult
+      after-page : (address : VirtAddr) → Spared (Call.DropPage address) (step m memory (Call.DropPage address))
+      unfolding step Calls.pageDropped
       after-page address = go (canonical address) refl
         where
           go : (b : Bool) → canonical address ≡ b
-              → Spared (Calls.page address) (record { answer = done; machine = cond b (withCache m (Whole.dropPage (tag address) (m .cache))) m; memory = memory })
+              → Spared (Call.DropPage address) (record { answer = done; machine = cond b (withCache m (Whole.dropPage (tag address) (m .cache))) m; memory = memory })
           go true form no-drop not-asked counting =
               with-cache m (Whole.dropPage (tag address) (m .cache)) k
               (drop-stays (tag address) (m .cache) (λ e. eqb-false (tag address) t other (sym e)) (k .stays-in))
             where
-              dropped : eqb (tag address) t ≡ true → drops t w (Calls.page address) done ≡ true
+              dropped : eqb (tag address) t ≡ true → drops t w (Call.DropPage address) done ≡ true
               dropped same = rw (form, same)
 
               other : eqb (tag address) t ≡ false
               other = by-cases (eqb (tag address) t) (λ same. contradiction (dropped same) no-drop) (λ apart. apart)
           go false form no-drop not-asked counting = k
 
-      after-all : Spared Calls.all (step m memory Calls.all)
-      unfolding step Calls.allResult
+      after-all : Spared Call.DropAll (step m memory Call.DropAll)
+      unfolding step Calls.allDropped
       after-all = λ no-drop not-asked counting. absurd (false≢true (sym no-drop))
 
       after-call : (c : Call) → Spared c (step m memory c)
-      after-call (Calls.translate address access mode) = translation address access mode (goes m memory address access mode)
-      after-call (Calls.store at value) = after-store at value
-      after-call (Calls.root value) = after-root value
-      after-call (Calls.settings cr0 cr4 efer width) = after-settings cr0 cr4 efer width
-      after-call (Calls.page address) = after-page address
-      after-call Calls.all = after-all
+      after-call (Call.Translate address access mode) = translation address access mode (goes m memory address access mode)
+      after-call (Call.Store at value) = after-store at value
+      after-call (Call.LoadRoot value) = after-root value
+      after-call (Call.LoadSettings cr0 cr4 efer width) = after-settings cr0 cr4 efer width
+      after-call (Call.DropPage address) = after-page address
+      after-call Call.DropAll = after-all
 
     -- a series that spares the page
     pub remembered : (now : Stand) (es : List Event) → Remembers (now .machine) → Between t w pages now es → Remembers (run now es .machine)

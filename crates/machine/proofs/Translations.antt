@@ -6,7 +6,7 @@ use mathlib.Core.List.{List}
 use Rattle.settings.specs.declared.Settings.{Settings}
 use Rattle.address.specs.declared.VirtAddr.{VirtAddr}
 use Rattle.address.specs.Address.{tag}
-use Rattle.walk.specs.declared.Access.{Access}
+use Rattle.walk.specs.declared.Way.{Way}
 use Rattle.walk.specs.declared.Answer.{Answer}
 use Rattle.walk.specs.declared.Answer.the-variants as Answer
 use Rattle.walk.specs.declared.Asked.{Asked}
@@ -15,15 +15,18 @@ use Rattle.walk.specs.declared.Mapping.{Mapping}
 use Rattle.walk.specs.declared.Walked.{Walked}
 use Rattle.walk.specs.declared.Walked.the-variants as Walked
 use Rattle.walk.specs.Walk.{after, walkAnswer, walkMemory}
-use Rattle.walk.specs.Translate.{asked, answered, fresh, translated, translatedMemory}
+use Rattle.walk.specs.Translate.{asked, answered, translated, translatedMemory}
 use Rattle.cache.specs.declared.Found.{Found}
 use Rattle.cache.specs.declared.Found.the-variants as Found
 use Rattle.cache.specs.declared.Place.{Place}
-use Rattle.cache.specs.Whole.{findCache, fillCache}
-use Rattle.cache.specs.Whole as Whole
+use Rattle.cache.specs.Whole.{fillCache, dropPage}
+use Rattle.cache.proofs.Laws.{findCache}
+use Rattle.machine.specs.declared.Call.{Call}
+use Rattle.machine.specs.declared.Call.the-variants as Call
 use Rattle.machine.specs.declared.Machine.{Machine}
+use Rattle.machine.specs.Probe.{probed}
 use Rattle.machine.specs.Remember.{wanted, placeOf, hit}
-use Rattle.machine.specs.Calls.{Result, step, withCache, only}
+use Rattle.machine.specs.Calls.{Result, step, withCache}
 use Rattle.machine.specs.Calls as Calls
 use Rattle.machine.specs.Demand1.{faulted}
 use Rattle.machine.specs.History.{succeeded}
@@ -34,7 +37,7 @@ module _ (m : Machine) (memory : List ℕ) (address : VirtAddr) (access mode : �
 
   -- the call's result, and the fresh walk's answer and memory
   abbrev result : Result
-  result = step m memory (Calls.translate address access mode)
+  result = step m memory (Call.Translate address access mode)
 
   abbrev freshly : Answer
   freshly = translated s address access mode memory
@@ -43,7 +46,7 @@ module _ (m : Machine) (memory : List ℕ) (address : VirtAddr) (access mode : �
   left = translatedMemory s address access mode memory
 
   -- the result of a walk that fills, and of one that drops
-  abbrev pub filledResult : Access → Mapping → Result
+  abbrev pub filledResult : Way → Mapping → Result
   filledResult a f =
       record {
         answer = answered s address a (Walked.Mapped f);
@@ -52,21 +55,25 @@ module _ (m : Machine) (memory : List ℕ) (address : VirtAddr) (access mode : �
       }
 
   abbrev pub droppedResult : Answer → Result
-  droppedResult r = record { answer = r; machine = withCache m (Whole.dropPage (tag address) (m .cache)); memory = memory }
+  droppedResult r = record { answer = r; machine = withCache m (dropPage (tag address) (m .cache)); memory = memory }
+
+  -- a result that changes nothing
+  abbrev pub sameResult : Answer → Result
+  sameResult r = record { answer = r; machine = m; memory = memory }
 
   -- how a translation goes
   pub data Goes : Type 0 where
-    quiet : (r : Answer) → succeeded r ≡ false → faulted r ≡ false → result ≡ only r m memory → freshly ≡ r → left ≡ memory → Goes
-    hits : (a : Access) (p : Place) → findCache (wanted s address a) (m .cache) ≡ Found.At p → result ≡ only (hit address p) m memory
+    quiet : (r : Answer) → succeeded r ≡ false → faulted r ≡ false → result ≡ sameResult r → freshly ≡ r → left ≡ memory → Goes
+    hits : (a : Way) (p : Place) → findCache (wanted s address a) (m .cache) ≡ Found.At p → result ≡ sameResult (hit address p)
         → freshly ≡ answered s address a (walkAnswer s address a memory) → left ≡ walkMemory s address a memory → Goes
-    fills : (a : Access) (f : Mapping) → asked s address access mode ≡ Asked.On a → walkAnswer s address a memory ≡ Walked.Mapped f
+    fills : (a : Way) (f : Mapping) → asked s address access mode ≡ Asked.On a → walkAnswer s address a memory ≡ Walked.Mapped f
         → result ≡ filledResult a f → freshly ≡ answered s address a (Walked.Mapped f) → left ≡ walkMemory s address a memory → Goes
     drops : (r : Answer) → succeeded r ≡ false → faulted r ≡ true
         → result ≡ droppedResult r → freshly ≡ r → left ≡ memory → Goes
 
-  by-walk : (a : Access) (w : Walked) → asked s address access mode ≡ Asked.On a → findCache (wanted s address a) (m .cache) ≡ Found.Nothing
+  by-walk : (a : Way) (w : Walked) → asked s address access mode ≡ Asked.On a → findCache (wanted s address a) (m .cache) ≡ Found.Nothing
       → walkAnswer s address a memory ≡ w → Goes
-  unfolding step Calls.translated translated translatedMemory after
+  unfolding step Calls.translated probed translated translatedMemory after
   by-walk a (Walked.Mapped f) on miss is =
       fills a f on is (rw (on, miss, is)) (rw (on, is)) (rw on)
   by-walk a (Walked.Refused cause n) on miss is =
@@ -74,13 +81,13 @@ module _ (m : Machine) (memory : List ℕ) (address : VirtAddr) (access mode : �
   by-walk a (Walked.Outside at l n) on miss is =
       drops (answered s address a (Walked.Outside at l n)) refl refl (rw (on, miss, is)) (rw (on, is)) (rw (on, is))
 
-  by-found : (a : Access) (x : Found) → asked s address access mode ≡ Asked.On a → findCache (wanted s address a) (m .cache) ≡ x → Goes
-  unfolding step Calls.translated translated translatedMemory
+  by-found : (a : Way) (x : Found) → asked s address access mode ≡ Asked.On a → findCache (wanted s address a) (m .cache) ≡ x → Goes
+  unfolding step Calls.translated probed translated translatedMemory
   by-found a (Found.At p) on is = hits a p is (rw (on, is)) (rw on) (rw on)
   by-found a Found.Nothing on is = by-walk a (walkAnswer s address a memory) on is refl
 
   by-asked : (x : Asked) → asked s address access mode ≡ x → Goes
-  unfolding step Calls.translated translated translatedMemory
+  unfolding step Calls.translated probed translated translatedMemory
   by-asked Asked.Unknown is = quiet Answer.Unknown refl refl (rw is) (rw is) (rw is)
   by-asked Asked.NotServed is = quiet Answer.NotServed refl refl (rw is) (rw is) (rw is)
   by-asked Asked.Form is = quiet Answer.Form refl refl (rw is) (rw is) (rw is)

@@ -1,10 +1,9 @@
 -- Demand 1: "Any numbers, any memory and any remembered state get an answer. A refusal names its number and changes no guest byte. It leaves the remembered state alone too, except that a page fault or a table outside memory drops the page asked for."
-use Prim.Native.Nat.{ℕ, _≤_}
+use Prim.Native.Nat.{ℕ}
 use mathlib.Core.Path.{_≡_}
-use mathlib.Core.Bool.{Bool, true, not, _||_, cond}
-use mathlib.Core.List.{List}
+use mathlib.Core.Bool.{Bool, true, false, not, _||_, cond}
+use mathlib.Core.List.{List, [], _∷_}
 use lib.Dec.{eqb}
-use lib.ListN.{length}
 use Rattle.address.specs.Address.{tag}
 use Rattle.walk.specs.declared.Answer.{Answer}
 use Rattle.walk.specs.Translate.{numbers}
@@ -12,8 +11,19 @@ use Rattle.cache.specs.declared.Place.{Place}
 use Rattle.cache.specs.Places.{otherTag}
 use Rattle.cache.specs.Sets.{keep}
 use Rattle.cache.specs.Whole.{held}
+use Rattle.machine.specs.declared.Call.{Call}
+use Rattle.machine.specs.declared.Call.the-variants as Call
 use Rattle.machine.specs.declared.Machine.{Machine}
-use Rattle.machine.specs.Calls.{Call, translate, store, root, settings, page, all, step}
+use Rattle.machine.specs.Calls.{step}
+
+-- a number is in a list
+abbrev pub among : ℕ → List ℕ → Bool
+among n [] = false
+among n (k ∷ ks) = eqb n k || among n ks
+
+-- the numbers with which a call of the machine is refused
+abbrev pub refusals : List ℕ
+refusals = 1 ∷ 2 ∷ 3 ∷ 4 ∷ 5 ∷ []
 
 -- a refusal: any answer but 0
 abbrev pub refused : Answer → Bool
@@ -23,22 +33,32 @@ refused r = not (eqb (numbers r .answer) 0)
 abbrev pub faulted : Answer → Bool
 faulted r = eqb (numbers r .answer) 4 || eqb (numbers r .answer) 5
 
--- what a refused call leaves of a set's places: a translation's 4 or 5 "drops the page asked for", all else stays
-abbrev pub leaves : Call → Answer → List Place → List Place
-leaves (translate address access mode) r places = cond (faulted r) (keep (otherTag (tag address)) places) places
-leaves (store at value) r places = places
-leaves (root value) r places = places
-leaves (settings cr0 cr4 efer width) r places = places
-leaves (page address) r places = places
-leaves all r places = places
+-- a refused call that "drops the page asked for": a translation's 4 or 5
+abbrev pub dropsAsked : Call → Answer → Bool
+dropsAsked (Call.Translate address access mode) r = faulted r
+dropsAsked (Call.Store at value) r = false
+dropsAsked (Call.LoadRoot value) r = false
+dropsAsked (Call.LoadSettings cr0 cr4 efer width) r = false
+dropsAsked (Call.DropPage address) r = false
+dropsAsked Call.DropAll r = false
 
--- what a refusal keeps: its number is one of 1 to 5; every guest byte, the settings, and the filled places of every set
-pub record Kept (m : Machine) (memory : List ℕ) (call : Call) : Type 0 where
-  pub number : (1 ≤ numbers (step m memory call .answer) .answer) × (numbers (step m memory call .answer) .answer ≤ 5)
+-- what a refused call leaves of a set's places: the page asked for is dropped, or all stay
+abbrev pub leaves : Call → Answer → List Place → List Place
+leaves (Call.Translate address access mode) r places = cond (faulted r) (keep (otherTag (tag address)) places) places
+leaves (Call.Store at value) r places = places
+leaves (Call.LoadRoot value) r places = places
+leaves (Call.LoadSettings cr0 cr4 efer width) r places = places
+leaves (Call.DropPage address) r places = places
+leaves Call.DropAll r places = places
+
+-- a refused call: its number; every guest byte and the settings as before; the filled places of every set, and the whole machine where no page is dropped
+pub record Refuses (m : Machine) (memory : List ℕ) (call : Call) : Type 0 where
+  pub number : among (numbers (step m memory call .answer) .answer) refusals ≡ true
   pub bytes : step m memory call .memory ≡ memory
   pub registers : step m memory call .machine .settings ≡ m .settings
   pub places : (i : ℕ) → held i (step m memory call .machine .cache) ≡ leaves call (step m memory call .answer) (held i (m .cache))
+  pub otherwise : dropsAsked call (step m memory call .answer) ≡ false → step m memory call .machine ≡ m
 
--- the demand, for every machine (of 16 sets, as each machine of the code has), every memory and every call; that each has an answer is that step is a function
+-- the demand, for every machine, every memory and every call; that each has an answer is that step is a function
 abbrev pub Demand1 : Type 0
-Demand1 = (m : Machine) → length (m .cache .sets) ≡ 16 → (memory : List ℕ) (call : Call) → refused (step m memory call .answer) ≡ true → Kept m memory call
+Demand1 = (m : Machine) (memory : List ℕ) (call : Call) → refused (step m memory call .answer) ≡ true → Refuses m memory call

@@ -12,16 +12,17 @@ use Rattle.address.specs.Address.{tag}
 use Rattle.walk.specs.declared.Answer.{Answer}
 use Rattle.walk.specs.declared.Numbers.{Numbers}
 use Rattle.walk.specs.Translate.{translated, translatedMemory, numbers}
-use Rattle.cache.specs.Places.{setIndex}
-use Rattle.machine.specs.Calls.{Call, Result}
-use Rattle.machine.specs.Calls as Calls
+use Rattle.machine.specs.declared.Call.{Call}
+use Rattle.machine.specs.declared.Call.the-variants as Call
+use Rattle.machine.specs.Calls.{Result}
+use Rattle.machine.specs.Demand1.{among}
 use Rattle.machine.specs.Series.{Event, call, stores, Stand, gives, leads, run, start}
 use Rattle.machine.specs.History.{Walk, Latest, none, walk, walkOf, succeeded, asks, drops, latest}
 use Rattle.machine.specs.Holds.{Holds}
 
 -- what a translation gives where a series stands
 abbrev pub ask : Stand → VirtAddr → ℕ → ℕ → Result
-ask now address access mode = gives now (Calls.translate address access mode)
+ask now address access mode = gives now (Call.Translate address access mode)
 
 -- what a fresh walk is answered there, and the memory that it leaves: the rules of one uncached translation
 abbrev pub freshAnswer : Stand → VirtAddr → ℕ → ℕ → Answer
@@ -37,16 +38,17 @@ Premise now none = Unit
 Premise now (walk w) = (root (now .machine .settings) ≡ w .root) × Holds (now .memory) (w .entries)
 
 -- "address and size, or refusal": number, value and detail of an answer, and not its entries read
-abbrev pub told : Answer → Numbers
-told r = record { answer = numbers r .answer; value = numbers r .value; detail = numbers r .detail; reads = 0 }
+abbrev pub withoutReads : Answer → Numbers
+withoutReads r = record { answer = numbers r .answer; value = numbers r .value; detail = numbers r .detail; reads = 0 }
 
 -- "Then address and size, or refusal, and the memory afterwards are those of a fresh walk."
 abbrev pub AsFresh : Stand → VirtAddr → ℕ → ℕ → Type 0
 AsFresh now address access mode =
-    (told (ask now address access mode .answer) ≡ told (freshAnswer now address access mode))
+    (withoutReads (ask now address access mode .answer) ≡ withoutReads (freshAnswer now address access mode))
     × (ask now address access mode .memory ≡ freshMemory now address access mode)
 
--- the first half: "Take any series of calls from an empty cache, with any guest stores between", and any question
+-- the first half: "Take any series of calls from an empty cache, with any guest stores between", and any question;
+-- "In the demands a page is 4,096 bytes of virtual address": its tag
 abbrev pub FirstHalf : Type 0
 FirstHalf =
     (s : Settings) (memory : List ℕ) (series : List Event) (address : VirtAddr) (access mode : ℕ)
@@ -57,20 +59,15 @@ FirstHalf =
 abbrev pub others : ℕ
 others = 3
 
--- a page is in a list of pages
-abbrev pub among : ℕ → List ℕ → Bool
-among t [] = false
-among t (page ∷ pages) = eqb t page || among t pages
-
--- where a call walks another page of the set of t with success, that page is in the list
+-- where a call walks another page "of its set" with success (the set of page t: "tag mod 16"), that page is in the list
 abbrev pub counted : ℕ → List ℕ → Call → Answer → Bool
-counted t pages (Calls.translate address access mode) r =
-    not (succeeded r && eqb (setIndex (tag address)) (setIndex t)) || among (tag address) pages
-counted t pages (Calls.store at value) r = true
-counted t pages (Calls.root value) r = true
-counted t pages (Calls.settings cr0 cr4 efer width) r = true
-counted t pages (Calls.page address) r = true
-counted t pages Calls.all r = true
+counted t pages (Call.Translate address access mode) r =
+    not (succeeded r && eqb (tag address % 16) (t % 16)) || among (tag address) pages
+counted t pages (Call.Store at value) r = true
+counted t pages (Call.LoadRoot value) r = true
+counted t pages (Call.LoadSettings cr0 cr4 efer width) r = true
+counted t pages (Call.DropPage address) r = true
+counted t pages Call.DropAll r = true
 
 -- "between, nothing dropped it, no other call asked for it, and" of the "other pages of its set" those of a list alone "were walked with success"
 abbrev pub Between : ℕ → Walk → List ℕ → Stand → List Event → Type 0
@@ -90,15 +87,16 @@ walkBy now address access mode = walkOf (now .machine .settings) address (now .m
 abbrev pub again : Numbers → VirtAddr → Numbers
 again before address = record { answer = 0; value = before .value / 4096 * 4096 + address .0 % 4096; detail = before .detail; reads = 0 }
 
--- "a page walked with success and later asked for in the same way reports no entry read": the same access and mode, any offset
+-- "a page walked with success and later asked for in the same way reports no entry read": the same access and mode, any offset;
+-- "With paging on": with paging off no call reads an entry, so none has succeeded here
 abbrev pub Remembered : Stand → Type 0
 Remembered now =
     (first later : VirtAddr) (access mode : ℕ) (pages : List ℕ) (between : List Event)
     → succeeded (ask now first access mode .answer) ≡ true
     → tag later ≡ tag first
     → length pages ≤ others
-    → Between (tag first) (walkBy now first access mode) pages (leads now (call (Calls.translate first access mode))) between
-    → numbers (ask (run (leads now (call (Calls.translate first access mode))) between) later access mode .answer)
+    → Between (tag first) (walkBy now first access mode) pages (leads now (call (Call.Translate first access mode))) between
+    → numbers (ask (run (leads now (call (Call.Translate first access mode))) between) later access mode .answer)
     ≡ again (numbers (ask now first access mode .answer)) later
 
 -- the second half: after any series from an empty cache

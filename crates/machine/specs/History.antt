@@ -7,14 +7,15 @@ use Rattle.word.specs.Bits.{bit}
 use Rattle.word.specs.Bytes.{load}
 use Rattle.settings.specs.declared.Settings.{Settings}
 use Rattle.settings.specs.Settings.{pge, root}
+use Rattle.address.specs.declared.PhysAddr.{PhysAddr}
 use Rattle.address.specs.declared.VirtAddr.{VirtAddr}
 use Rattle.address.specs.Address.{canonical, tag}
 use Rattle.walk.specs.declared.Answer.{Answer}
 use Rattle.walk.specs.Translate.{numbers}
 use Rattle.walk.specs.Path.{Entry, End, outside, missing, reserved, page, entries, endOf}
 use Rattle.walk.specs.Walk.{walkPath}
-use Rattle.machine.specs.Calls.{Call}
-use Rattle.machine.specs.Calls as Calls
+use Rattle.machine.specs.declared.Call.{Call}
+use Rattle.machine.specs.declared.Call.the-variants as Call
 use Rattle.machine.specs.Demand1.{faulted}
 use Rattle.machine.specs.Series.{Event, call, stores, Stand, gives, leads}
 
@@ -25,7 +26,7 @@ pub record Left : Type 0 where
 
 -- a successful walk: the root it used, the entries it read with what it left in them, and whether its page is G
 pub record Walk : Type 0 where
-  pub root : ℕ
+  pub root : PhysAddr
   pub entries : List Left
   pub global : Bool
 
@@ -60,21 +61,21 @@ accepted r = eqb (numbers r .answer) 0
 
 -- a call that asks for page t: any translation that names it
 abbrev pub asks : ℕ → Call → Bool
-asks t (Calls.translate address access mode) = eqb (tag address) t
-asks t (Calls.store at value) = false
-asks t (Calls.root value) = false
-asks t (Calls.settings cr0 cr4 efer width) = false
-asks t (Calls.page address) = false
-asks t Calls.all = false
+asks t (Call.Translate address access mode) = eqb (tag address) t
+asks t (Call.Store at value) = false
+asks t (Call.LoadRoot value) = false
+asks t (Call.LoadSettings cr0 cr4 efer width) = false
+asks t (Call.DropPage address) = false
+asks t Call.DropAll = false
 
 -- a call that drops page t, whose latest successful walk is w; to fall out at the end of a set is no drop
 abbrev pub drops : ℕ → Walk → Call → Answer → Bool
-drops t w (Calls.translate address access mode) r = eqb (tag address) t && faulted r
-drops t w (Calls.store at value) r = false
-drops t w (Calls.root value) r = accepted r && not (w .global)
-drops t w (Calls.settings cr0 cr4 efer width) r = accepted r
-drops t w (Calls.page address) r = canonical address && eqb (tag address) t
-drops t w Calls.all r = true
+drops t w (Call.Translate address access mode) r = eqb (tag address) t && faulted r
+drops t w (Call.Store at value) r = false
+drops t w (Call.LoadRoot value) r = accepted r && not (w .global)
+drops t w (Call.LoadSettings cr0 cr4 efer width) r = accepted r
+drops t w (Call.DropPage address) r = canonical address && eqb (tag address) t
+drops t w Call.DropAll r = true
 
 -- what is known of a page: no successful walk since it was last dropped, or the latest such walk
 pub data Latest : Type 0 where
@@ -82,19 +83,19 @@ pub data Latest : Type 0 where
   walk : Walk → Latest
 
 -- the latest walk of page t after a call that does not walk it with success: forgotten where the page is dropped
-abbrev pub kept : ℕ → Call → Answer → Latest → Latest
-kept t c r none = none
-kept t c r (walk w) = cond (drops t w c r) none (walk w)
+abbrev pub stillKnown : ℕ → Call → Answer → Latest → Latest
+stillKnown t c r none = none
+stillKnown t c r (walk w) = cond (drops t w c r) none (walk w)
 
 -- the latest walk of page t after a call, from settings and memory before it, its answer and memory after it
 abbrev pub noted : ℕ → Settings → List ℕ → Call → Answer → List ℕ → Latest → Latest
-noted t s before (Calls.translate address access mode) r after w =
-    cond (eqb (tag address) t && succeeded r) (walk (walkOf s address before after)) (kept t (Calls.translate address access mode) r w)
-noted t s before (Calls.store at value) r after w = kept t (Calls.store at value) r w
-noted t s before (Calls.root value) r after w = kept t (Calls.root value) r w
-noted t s before (Calls.settings cr0 cr4 efer width) r after w = kept t (Calls.settings cr0 cr4 efer width) r w
-noted t s before (Calls.page address) r after w = kept t (Calls.page address) r w
-noted t s before Calls.all r after w = kept t Calls.all r w
+noted t s before (Call.Translate address access mode) r after w =
+    cond (eqb (tag address) t && succeeded r) (walk (walkOf s address before after)) (stillKnown t (Call.Translate address access mode) r w)
+noted t s before (Call.Store at value) r after w = stillKnown t (Call.Store at value) r w
+noted t s before (Call.LoadRoot value) r after w = stillKnown t (Call.LoadRoot value) r w
+noted t s before (Call.LoadSettings cr0 cr4 efer width) r after w = stillKnown t (Call.LoadSettings cr0 cr4 efer width) r w
+noted t s before (Call.DropPage address) r after w = stillKnown t (Call.DropPage address) r w
+noted t s before Call.DropAll r after w = stillKnown t Call.DropAll r w
 
 -- the same after an event: guest stores drop nothing
 abbrev pub notedEvent : ℕ → Stand → Event → Latest → Latest

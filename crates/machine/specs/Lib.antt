@@ -3,6 +3,7 @@ pub mod Demand1
 pub mod Demand3
 pub mod History
 pub mod Holds
+pub mod MovedPage
+pub mod Probe
 pub mod Remember
 pub mod Series
-pub mod Sets

@@ -1,4 +1,5 @@
-// The other calls: start, store, loads and drops.
+// The other calls (start, store, loads and drops), and one call of any kind.
+use crate::Call;
 use crate::Machine;
 use crate::Stepped;
 use address::PhysAddr;
@@ -9,7 +10,6 @@ use settings::Settings;
 use walk::Answer;
 use word::bytes::store64;
 ghost use mathlib.Core.Path.{_≡_};
-ghost use Rattle.cache.specs.Whole.{emptyCache, loadRoot};
 ghost use Rattle.machine.specs.Calls as spec;
 
 // Done, where no translation was asked.
@@ -21,7 +21,7 @@ fn done() -> Answer
 
 // The machine that a load leaves: judged by the settings that it would leave, and refused as it was.
 fn load(before: Machine, settings: Settings, cache: Cache) -> Stepped
-    ensures { λ r. ⌜ (r .answer ≡ spec.loadAnswer settings) × (r .machine ≡ spec.loaded before settings cache) ⌝ }
+    ensures { λ r. ⌜ r ≡ spec.loaded before settings cache ⌝ }
 {
     match settings.judge() {
         Service::Served => Stepped {
@@ -38,7 +38,7 @@ fn load(before: Machine, settings: Settings, cache: Cache) -> Stepped
 impl Machine {
     // A start: refused, it gives all registers 0 and M = 40.
     pub fn start(settings: Settings) -> Stepped
-        ensures { λ r. ⌜ (r .answer ≡ spec.loadAnswer settings) × (r .machine ≡ spec.started settings) ⌝ }
+        ensures { λ r. ⌜ r ≡ spec.started settings ⌝ }
     {
         let cache = Cache::empty();
         let initial = Settings::initial();
@@ -54,7 +54,7 @@ impl Machine {
 
     // A store of a value's 8 bytes.
     pub fn store(self, at: u64, value: u64, memory: &mut [u8]) -> Stepped
-        ensures { λ r. ⌜ (r .answer ≡ spec.storedResult self (now (memory .entry)) at value .answer) × (r .machine ≡ spec.storedResult self (now (memory .entry)) at value .machine) × (now (memory .exit) ≡ spec.storedResult self (now (memory .entry)) at value .memory) ⌝ }
+        ensures { λ r. ⌜ spec.Gives (spec.storedResult self (now (memory .entry)) at value) r (now (memory .exit)) ⌝ }
     {
         if store64(memory, at as usize, value) {
             return Stepped {
@@ -70,7 +70,7 @@ impl Machine {
 
     // A root load: all but G places are dropped.
     pub fn load_root(self, value: u64) -> Stepped
-        ensures { λ r. ⌜ (r .answer ≡ spec.loadAnswer (spec.withRoot (self .settings) value)) × (r .machine ≡ spec.loaded self (spec.withRoot (self .settings) value) (loadRoot (self .cache))) ⌝ }
+        ensures { λ r. ⌜ r ≡ spec.rootLoaded self value ⌝ }
     {
         let settings = self.settings;
         let cache = self.cache;
@@ -90,7 +90,7 @@ impl Machine {
 
     // A settings load: CR3 stays, everything is dropped.
     pub fn load_settings(self, cr0: u64, cr4: u64, efer: u64, width: u64) -> Stepped
-        ensures { λ r. ⌜ (r .answer ≡ spec.loadAnswer (spec.withSettings (self .settings) cr0 cr4 efer width)) × (r .machine ≡ spec.loaded self (spec.withSettings (self .settings) cr0 cr4 efer width) emptyCache) ⌝ }
+        ensures { λ r. ⌜ r ≡ spec.settingsLoaded self cr0 cr4 efer width ⌝ }
     {
         let settings = self.settings;
         let empty = Cache::empty();
@@ -109,7 +109,7 @@ impl Machine {
 
     // A drop of a page: an address that is not canonical changes nothing.
     pub fn drop_page(self, address: VirtAddr) -> Stepped
-        ensures { λ r. ⌜ (r .answer ≡ spec.done) × (r .machine ≡ spec.pageDropped self address) ⌝ }
+        ensures { λ r. ⌜ r ≡ spec.pageDropped self address ⌝ }
     {
         if !address.canonical() {
             return Stepped {
@@ -118,12 +118,8 @@ impl Machine {
             };
         }
         let settings = self.settings;
-        let mut cache = self.cache;
-        let page = address.tag();
-        let index = Cache::set_of(page);
-        let set = cache.sets[index as usize];
-        let dropped = set.drop_tag(index, page);
-        cache.sets[index as usize] = dropped;
+        let before = self.cache;
+        let cache = before.drop_page(address.tag());
         Stepped {
             answer: done(),
             machine: Machine { settings, cache },
@@ -132,13 +128,27 @@ impl Machine {
 
     // A drop of everything.
     pub fn drop_all(self) -> Stepped
-        ensures { λ r. ⌜ (r .answer ≡ spec.done) × (r .machine ≡ spec.withCache self emptyCache) ⌝ }
+        ensures { λ r. ⌜ r ≡ spec.allDropped self ⌝ }
     {
         let settings = self.settings;
         let cache = Cache::empty();
         Stepped {
             answer: done(),
             machine: Machine { settings, cache },
+        }
+    }
+
+    // One call.
+    pub fn step(self, call: Call, memory: &mut [u8]) -> Stepped
+        ensures { λ r. ⌜ spec.Gives (spec.step self (now (memory .entry)) call) r (now (memory .exit)) ⌝ }
+    {
+        match call {
+            Call::Translate(address, access, mode) => self.translate(address, access, mode, memory),
+            Call::Store(at, value) => self.store(at, value, memory),
+            Call::LoadRoot(value) => self.load_root(value),
+            Call::LoadSettings(cr0, cr4, efer, width) => self.load_settings(cr0, cr4, efer, width),
+            Call::DropPage(address) => self.drop_page(address),
+            Call::DropAll => self.drop_all(),
         }
     }
 }

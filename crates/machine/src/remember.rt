@@ -2,20 +2,19 @@
 use address::VirtAddr;
 use cache::Place;
 use cache::Wanted;
+use entry::bits::D;
+use entry::bits::G;
 use settings::Settings;
-use walk::Access;
 use walk::Answer;
 use walk::Mapping;
+use walk::Way;
 use walk::walk::needs_write;
 use word::bits::bit;
+ghost use mathlib.Core.Bool.{cond};
 ghost use mathlib.Core.Path.{_≡_};
 ghost use Prim.Native.Nat.{_≤_};
+ghost use Rattle.entry.specs.Rights.{number};
 ghost use Rattle.machine.specs.Remember as spec;
-
-// Entry bits, by the chapter's names: dirty, and global.
-const D: u64 = 6;
-
-const G: u64 = 8;
 
 // The bits of rights as a number.
 const WRITE: u64 = 0;
@@ -24,47 +23,59 @@ const USER: u64 = 1;
 
 const FETCH: u64 = 2;
 
-// What a translation wants of a place.
-pub(crate) fn wanted(settings: Settings, address: VirtAddr, access: Access) -> Wanted
-    ensures { λ r. ⌜ r ≡ spec.wanted settings address access ⌝ }
+// The size of a page of 4 KiB.
+const FOUR_KIB: u64 = 1;
+
+// A flag, where it is set.
+fn flag(set: bool, weight: u8) -> u8
+    ensures { λ r. ⌜ (r ≡ cond set weight 0) × (r ≤ weight) ⌝ }
 {
-    let write = needs_write(settings, access);
+    if set {
+        return weight;
+    }
+    0
+}
+
+// Rights and D as flags.
+fn flags(write: bool, user: bool, fetch: bool, dirty: bool) -> u8
+    ensures { λ r. ⌜ (r ≡ spec.withDirty (number write user fetch) dirty) × (r ≤ 15) ⌝ }
+{
+    let rights = flag(user, Place::USER) + flag(fetch, Place::FETCH);
+    flag(write, Place::WRITE) + rights + flag(dirty, Place::DIRTY)
+}
+
+// What a translation wants of a place.
+pub(crate) fn wanted(settings: Settings, address: VirtAddr, way: Way) -> Wanted
+    ensures { λ r. ⌜ r ≡ spec.wanted settings address way ⌝ }
+{
+    let write = needs_write(settings, way);
     Wanted {
         tag: address.tag(),
-        write,
-        user: access.user,
-        fetch: access.fetch,
-        dirty: access.write,
+        flags: flags(write, way.user, way.fetches(), way.writes()),
     }
 }
 
 // The place that a successful walk leaves.
-pub(crate) fn place_of(
-    settings: Settings,
-    address: VirtAddr,
-    access: Access,
-    found: Mapping,
-) -> Place
-    requires { ⌜ found .size ≤ 4 ⌝ }
-    ensures { λ r. ⌜ r ≡ spec.placeOf settings address access found ⌝ }
+pub(crate) fn place_of(settings: Settings, address: VirtAddr, way: Way, found: Mapping) -> Place
+    ensures { λ r. ⌜ r ≡ spec.placeOf settings address way found ⌝ }
 {
     let base = found.base;
-    let size = found.size;
-    let physical = base.plus(address.offset(size));
+    let physical = base.plus(address.offset(found.size as u64));
     let frame = physical.frame();
     let global = bit(found.last, G);
     let pge = settings.pge();
     let dirty = bit(found.last, D);
+    let rights = flags(
+        bit(found.rights, WRITE),
+        bit(found.rights, USER),
+        bit(found.rights, FETCH),
+        dirty | way.writes(),
+    );
     Place {
         tag: address.tag(),
         frame,
-        size: size as u8,
-        marked: true,
-        write: bit(found.rights, WRITE),
-        user: bit(found.rights, USER),
-        fetch: bit(found.rights, FETCH),
-        dirty: dirty | access.write,
-        global: global & pge,
+        size: found.size,
+        flags: rights + flag(global & pge, Place::GLOBAL) + Place::MARKED,
     }
 }
 
@@ -73,6 +84,6 @@ pub(crate) fn hit(address: VirtAddr, place: Place) -> Answer
     ensures { λ r. ⌜ r ≡ spec.hit address place ⌝ }
 {
     let frame = place.frame;
-    let plain = address.0;
-    Answer::Done(frame.at(plain), place.size as u64, 0)
+    let offset = address.offset(FOUR_KIB);
+    Answer::Done(frame.at(offset), place.size as u64, 0)
 }

@@ -1,4 +1,4 @@
-// A translation: the set of the page is probed, and only where it has to walk is the set written anew.
+// A translation: the set of the page is probed, and only where it has to walk does what is remembered change.
 use crate::Machine;
 use crate::Probed;
 use crate::Stepped;
@@ -10,25 +10,21 @@ use cache::Cache;
 use cache::Found;
 use cache::Set;
 use settings::Settings;
-use walk::Access;
 use walk::Answer;
 use walk::Asked;
+use walk::Mapping;
 use walk::Walked;
+use walk::Way;
 use walk::translate::answer;
 use walk::translate::ask;
 use walk::walk::walk;
 ghost use mathlib.Core.Path.{_≡_};
 ghost use Rattle.address.specs.Address.{tag};
-ghost use Rattle.walk.specs.Translate.{answered};
-ghost use Rattle.walk.specs.Walk.{walkAnswer, walkMemory};
+ghost use Rattle.cache.specs.Places.{setIndex};
+ghost use Rattle.cache.specs.Sets.{fillSet};
 ghost use Rattle.machine.specs.Calls as spec;
-ghost use Rattle.machine.specs.Sets.{probed, changed, SizeWithin};
-
-// What a walk that was made is answered, and the page's set afterwards.
-pub struct Renewed {
-    pub answer: Answer,
-    pub set: Set,
-}
+ghost use Rattle.machine.specs.Probe.{probed};
+ghost use Rattle.machine.specs.Remember.{placeOf};
 
 // What a translation finds in the page's set before it walks.
 pub fn probe(settings: Settings, set: Set, address: VirtAddr, access: u64, mode: u64) -> Probed
@@ -49,42 +45,20 @@ pub fn probe(settings: Settings, set: Set, address: VirtAddr, access: u64, mode:
     }
 }
 
-// The page's set after a walk: a success is filled in, a refusal drops the page.
-fn change(settings: Settings, set: Set, address: VirtAddr, access: Access, walked: Walked) -> Set
-    requires { ⌜ SizeWithin walked ⌝ }
-    ensures { λ r. ⌜ r ≡ changed settings set address access walked ⌝ }
+// The page's set after a walk that found it.
+pub fn fill(settings: Settings, set: Set, address: VirtAddr, way: Way, found: Mapping) -> Set
+    ensures { λ r. ⌜ r ≡ fillSet (setIndex (tag address)) (placeOf settings address way found) set ⌝ }
 {
-    let page = address.tag();
-    let index = Cache::set_of(page);
-    match walked {
-        Walked::Mapped(found) => set.fill(index, place_of(settings, address, access, found)),
-        Walked::Refused(_, _) => set.drop_tag(index, page),
-        Walked::Outside(_, _, _) => set.drop_tag(index, page),
-    }
-}
-
-// A walk, its answer and the page's set afterwards.
-pub fn renew(
-    settings: Settings,
-    set: Set,
-    address: VirtAddr,
-    access: Access,
-    memory: &mut [u8],
-) -> Renewed
-    ensures { λ r. ⌜ (r .answer ≡ answered settings address access (walkAnswer settings address access (now (memory .entry)))) × (r .set ≡ changed settings set address access (walkAnswer settings address access (now (memory .entry)))) × (now (memory .exit) ≡ walkMemory settings address access (now (memory .entry))) ⌝ }
-{
-    let walked = walk(memory, settings, address, access);
-    let set = change(settings, set, address, access, walked);
-    Renewed {
-        answer: answer(settings, address, access, walked),
-        set,
-    }
+    set.fill(
+        Cache::set_of(address.tag()),
+        place_of(settings, address, way, found),
+    )
 }
 
 impl Machine {
-    // A translation on the machine.
+    // A translation on the machine: a hit stores nothing, a walk that finds the page its own set, and a refused one drops the page.
     pub fn translate(self, address: VirtAddr, access: u64, mode: u64, memory: &mut [u8]) -> Stepped
-        ensures { λ r. ⌜ (r .answer ≡ spec.translated self (now (memory .entry)) address access mode .answer) × (r .machine ≡ spec.translated self (now (memory .entry)) address access mode .machine) × (now (memory .exit) ≡ spec.translated self (now (memory .entry)) address access mode .memory) ⌝ }
+        ensures { λ r. ⌜ spec.Gives (spec.translated self (now (memory .entry)) address access mode) r (now (memory .exit)) ⌝ }
     {
         let settings = self.settings;
         let mut cache = self.cache;
@@ -93,13 +67,23 @@ impl Machine {
         match probe(settings, set, address, access, mode) {
             Probed::Answered(answer) => Stepped {
                 answer,
-                machine: Machine { settings, cache },
+                machine: self,
             },
-            Probed::Walk(a) => {
-                let renewed = renew(settings, set, address, a, memory);
-                let changed = renewed.set;
-                cache.sets[index] = changed;
-                let answer = renewed.answer;
+            Probed::Walk(way) => {
+                let walked = walk(memory, settings, address, way);
+                let answer = answer(settings, address, way, walked);
+                match walked {
+                    Walked::Mapped(found) => {
+                        let filled = fill(settings, set, address, way, found);
+                        cache.sets[index] = filled;
+                    }
+                    Walked::Refused(_, _) => {
+                        cache = cache.drop_page(address.tag());
+                    }
+                    Walked::Outside(_, _, _) => {
+                        cache = cache.drop_page(address.tag());
+                    }
+                }
                 Stepped {
                     answer,
                     machine: Machine { settings, cache },

@@ -69,6 +69,7 @@ fn play(
 }
 
 // Reads some cards, plays them and writes their lines; the input has ended where fewer came than were asked for.
+// "The deck is standard input."; "an empty deck prints nothing", since no card is played.
 fn read(machine: Machine, memory: &mut [u8; MEMORY], number: u64) -> Progress
     requires { ⌜ number + 128 < 2 ^ 64 ⌝ }
 {

@@ -1,8 +1,9 @@
 -- "Settings": the record's named bits, what is served, the root.
-use Prim.Native.Nat.{ℕ, _*_, _/_, _^_}
+use Prim.Native.Nat.{_*_, _/_, _^_}
 use mathlib.Core.Bool.{Bool, not, _&&_, _||_, cond}
 use lib.Dec.{eqb, leb, ltb}
 use Rattle.word.specs.Bits.{bit, field}
+use Rattle.address.specs.declared.PhysAddr.{PhysAddr}
 use Rattle.settings.specs.declared.Settings.{Settings}
 use Rattle.settings.specs.declared.Service.{Service}
 use Rattle.settings.specs.declared.Service.the-variants.{Served, NotServed}
@@ -41,11 +42,11 @@ widthServed s = leb 32 (s .width) && leb (s .width) 52
 abbrev pub rootServed : Settings → Bool
 rootServed s = ltb (s .cr3) (2 ^ s .width)
 
--- "when PG = 1, PE = PAE = LME = 1"
+-- "when PG = 1, PE = PAE = LME = 1"; "Left out: 32-bit, PAE [..] paging"
 abbrev pub modeServed : Settings → Bool
 modeServed s = pe s && (pae s && lme s)
 
--- "and CR4 bits 12, 17 and 20 to 24 clear"
+-- "and CR4 bits 12, 17 and 20 to 24 clear"; "Left out: [..] five-level paging, address-space numbers, SMEP, SMAP, protection keys, shadow stacks"
 abbrev pub extensionsServed : Settings → Bool
 extensionsServed s = not (bit (s .cr4) 12) && (not (bit (s .cr4) 17) && eqb (field (s .cr4) 20 5) 0)
 
@@ -53,10 +54,10 @@ extensionsServed s = not (bit (s .cr4) 12) && (not (bit (s .cr4) 17) && eqb (fie
 abbrev pub served : Settings → Bool
 served s = widthServed s && (rootServed s && (not (pg s) || (modeServed s && extensionsServed s)))
 
--- what is answered of a settings record
+-- what is answered of a settings record: served, or answer 2, "settings not served"
 abbrev pub judged : Settings → Service
 judged s = cond (served s) Served NotServed
 
 -- "The low 12 bits of CR3 do not count; the rest is the root."
-abbrev pub root : Settings → ℕ
-root s = s .cr3 / 4096 * 4096
+abbrev pub root : Settings → PhysAddr
+root s = record { 0 = s .cr3 / 4096 * 4096 }

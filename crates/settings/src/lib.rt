@@ -1,4 +1,5 @@
 // The settings record: control registers and physical width, its named bits, and what is served.
+use address::PhysAddr;
 use word::bits::bit;
 use word::bits::field;
 ghost use mathlib.Core.Path.{_≡_};
@@ -78,10 +79,10 @@ impl Settings {
     }
 
     // The root: CR3 without its low 12 bits.
-    pub fn root(self) -> u64
+    pub fn root(self) -> PhysAddr
         ensures { λ r. ⌜ r ≡ spec.root self ⌝ }
     {
-        self.cr3 / 4096 * 4096
+        PhysAddr(self.cr3 / 4096 * 4096)
     }
 
     // Whether M is from 32 to 52.

@@ -2,11 +2,14 @@
 use address::VirtAddr;
 use cache::Cache;
 use machine::Probed;
+use machine::translate::fill;
 use machine::translate::probe;
-use machine::translate::renew;
 use settings::Settings;
 use walk::Answer;
+use walk::Walked;
+use walk::translate::answer;
 use walk::translate::numbers;
+use walk::walk::walk;
 use word::Loaded;
 use word::bytes::load64;
 
@@ -51,15 +54,25 @@ pub extern "C" fn timing_translations(
         let index = Cache::set_of(address.tag()) as usize;
         let set = cache.sets[index];
         match probe(settings, set, address, access, mode) {
-            Probed::Answered(answer) => {
-                values = sum(values, answer);
+            Probed::Answered(found) => {
+                values = sum(values, found);
             }
-            Probed::Walk(a) => {
-                let renewed = renew(settings, set, address, a, memory);
-                let changed = renewed.set;
-                cache.sets[index] = changed;
-                let answer = renewed.answer;
-                values = sum(values, answer);
+            Probed::Walk(way) => {
+                let walked = walk(memory, settings, address, way);
+                values = sum(values, answer(settings, address, way, walked));
+                match walked {
+                    Walked::Mapped(found) => {
+                        let own = cache.sets[index];
+                        let filled = fill(settings, own, address, way, found);
+                        cache.sets[index] = filled;
+                    }
+                    Walked::Refused(_, _) => {
+                        cache = cache.drop_page(address.tag());
+                    }
+                    Walked::Outside(_, _, _) => {
+                        cache = cache.drop_page(address.tag());
+                    }
+                }
             }
         }
     }

@@ -21,7 +21,7 @@ pub(crate) fn with_width(width: u64) -> Settings {
 }
 
 // The exercises' settings with another CR4.
-fn with_cr4(cr4: u64) -> Settings {
+pub(crate) fn with_cr4(cr4: u64) -> Settings {
     record(0x8001_0001, 0x1000, cr4, 0x900, 40)
 }
 
@@ -39,7 +39,8 @@ fn judge(words: &[u8], settings: Settings) {
 fn root(words: &[u8], settings: Settings) {
     text(words);
     text(b": root ");
-    hex(settings.root());
+    let root = settings.root();
+    hex(root.0);
     text(b"\n");
 }
 

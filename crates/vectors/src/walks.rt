@@ -1,8 +1,9 @@
-// The exercises with known results, each on fresh memory, with the entries that it changes.
+// The exercises with known results and examples beside them, each on fresh memory, with the entries that it changes.
 use crate::print::decimal;
 use crate::print::hex;
 use crate::print::text;
 use crate::records::record;
+use crate::records::with_cr4;
 use crate::records::with_width;
 use address::VirtAddr;
 use settings::Settings;
@@ -148,6 +149,18 @@ fn ask_round(access: u64) {
     text(b"\n");
 }
 
+// Prints one exercise under the exercises' settings with WP = 0.
+fn unprotected(mode: u64, access: u64, address: u64) {
+    let settings = record(0x8000_0001, 0x1000, 0x20, 0x900, 40);
+    ask(b", WP 0", settings, mode, access, address);
+}
+
+// Prints one exercise under the exercises' settings with NXE = 0.
+fn executable(mode: u64, access: u64, address: u64) {
+    let settings = record(0x8001_0001, 0x1000, 0x20, 0x100, 40);
+    ask(b", NXE 0", settings, mode, access, address);
+}
+
 // Prints one exercise under the exercises' settings.
 fn usual(mode: u64, access: u64, address: u64) {
     ask(b"", with_width(40), mode, access, address);
@@ -159,13 +172,7 @@ fn given() {
     usual(USER, READ, 0x61_2345);
     usual(USER, READ, 0x5234_5678);
     usual(USER, READ, 0xa0_0010);
-    ask(
-        b", WP 0",
-        record(0x8000_0001, 0x1000, 0x20, 0x900, 40),
-        SUPERVISOR,
-        WRITE,
-        0x40_6000,
-    );
+    unprotected(SUPERVISOR, WRITE, 0x40_6000);
     ask(b", M 41", with_width(41), SUPERVISOR, READ, 0x40_8000);
 }
 
@@ -176,19 +183,57 @@ fn refused() {
     usual(SUPERVISOR, WRITE, 0x40_6000);
     usual(USER, WRITE, 0x80_8000_0000);
     usual(USER, FETCH, 0x40_7000);
-    ask(
-        b", NXE 0",
-        record(0x8001_0001, 0x1000, 0x20, 0x100, 40),
-        USER,
-        READ,
-        0x40_7000,
-    );
+    executable(USER, READ, 0x40_7000);
     usual(SUPERVISOR, READ, 0x40_8000);
     usual(SUPERVISOR, READ, 0xffff_8000_0000_0000);
     usual(SUPERVISOR, READ, 0xc000_0000);
     usual(USER, READ, 0xc000_0000);
     usual(SUPERVISOR, READ, 0x8000_0000_0000);
     usual(USER, FETCH, 0x8000_0000_0000);
+}
+
+// "unless the mode is supervisor and WP = 0", "needs R/W in all", "the highest level whose own entry lacks any needed right"
+fn rights() {
+    unprotected(USER, WRITE, 0x40_6000);
+    usual(USER, READ, 0x80_0040_3abc);
+    usual(USER, WRITE, 0x80_0040_3abc);
+    usual(USER, WRITE, 0x80_0040_6000);
+    usual(USER, FETCH, 0x80_0040_7000);
+}
+
+// "Bit 4 is set exactly for a fetch with NXE = 1."
+fn fetches() {
+    usual(USER, FETCH, 0x40_0000);
+    executable(USER, FETCH, 0x40_0000);
+    executable(USER, FETCH, 0x40_7000);
+}
+
+// Prints an exercise under the exercises' settings with another CR4.
+fn extended(note: &[u8], cr4: u64) {
+    ask(note, with_cr4(cr4), USER, READ, 0x40_3abc);
+}
+
+// "and CR4 bits [..] 20 to 24 clear"
+fn later_extensions() {
+    extended(b", CR4 bit 20 set", 0x10_0020);
+    extended(b", CR4 bit 21 set", 0x20_0020);
+    extended(b", CR4 bit 22 set", 0x40_0020);
+    extended(b", CR4 bit 23 set", 0x80_0020);
+    extended(b", CR4 bit 24 set", 0x100_0020);
+}
+
+// "and CR4 bits 12, 17 and 20 to 24 clear. With PG = 0 no other bit is tested."
+fn extensions() {
+    extended(b", CR4 bit 12 set", 0x1020);
+    extended(b", CR4 bit 17 set", 0x2_0020);
+    later_extensions();
+    ask(
+        b", paging off, CR4 bits 12, 17, 20 to 24 set",
+        record(0, 0, 0x1f2_1000, 0, 40),
+        USER,
+        READ,
+        0x40_3abc,
+    );
 }
 
 // "M 31 and 53: answer 2; 32 (with root 0x1000) and 52 served", "tested in this order: 1, 2, 3", and "Paging off"
@@ -220,7 +265,10 @@ fn tested() {
 pub(crate) fn all() {
     given();
     refused();
+    rights();
+    fetches();
     tested();
+    extensions();
     ask_round(READ);
     ask_round(WRITE);
 }

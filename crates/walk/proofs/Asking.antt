@@ -1,6 +1,6 @@
 -- The order of the tests before a walk, in plain bools.
 use Prim.Native.Nat.{ℕ, _≤_, _<_}
-use mathlib.Core.Path.{_≡_, refl}
+use mathlib.Core.Path.{_≡_}
 use mathlib.Core.Bool.{Bool, true, false, cond}
 use borrow.Author.Tests.{le-leb, lt-leb}
 use Rattle.settings.specs.declared.Settings.{Settings}

@@ -2,7 +2,7 @@
 use Prim.Native.Nat.{ℕ, _+_, _≤_, _<_}
 use native.Mathlib.Omega.{arith}
 use mathlib.Core.Path.{_≡_, refl, ap, sym, _∙_, subst}
-use mathlib.Core.Bool.{Bool, true, false, cond}
+use mathlib.Core.Bool.{Bool, true, false, _||_, cond}
 use mathlib.Core.List.{List}
 use mathlib.Core.Option.{Option, some, none}
 use lib.ListN.{length, getD}
@@ -11,18 +11,22 @@ use Rattle.settings.specs.declared.Settings.{Settings}
 use Rattle.settings.specs.Settings.{root}
 use Rattle.address.specs.declared.VirtAddr.{VirtAddr}
 use Rattle.walk.specs.declared.Access.{Access}
+use Rattle.walk.specs.declared.Access.the-variants.{Read, Write, Fetch}
+use Rattle.walk.specs.declared.Way.{Way}
+use Rattle.walk.specs.declared.Asked.the-variants as Asked
 use Rattle.walk.specs.declared.Answer.{Answer}
 use Rattle.walk.specs.declared.Answer.the-variants as Answer
-use Rattle.walk.specs.Access.{needed}
-use Rattle.walk.specs.Demand2.{first, stops, lacks, allInside, Gives, Refuses, Marks, Counts, Demand2, Walks}
+use Rattle.walk.specs.Access.{known, wayOf, needed, writes}
+use Rattle.walk.specs.Demand2.{first, stops, lacks, allInside, accessNumber, modeNumber, Gives, Refuses, Marks, Counts, Demand2, Walks}
 use Rattle.walk.specs.Path.{Path, End, Entry, page, entries, endOf}
-use Rattle.walk.specs.Translate.{translated, translatedMemory}
+use Rattle.walk.specs.Translate.{asked, fresh, freshMemory, translated, translatedMemory}
 use Rattle.walk.specs.Walk.{ended, walkPath}
-use Rattle.walk.proofs.Marking.{marks-bit}
+use Rattle.walk.proofs.Codes.{missing-code, reserved-code, rights-code}
+use Rattle.walk.proofs.Marking.{marks-bit, due-access}
 use Rattle.walk.proofs.Sound.{Sound, SoundEnd, sound, stopping, first-stop, at-end, at-most, at-least, last-read, follows}
 use Rattle.walk.proofs.Verdict as verdict
 
-module _ (s : Settings) (va : VirtAddr) (a : Access) (m : List ℕ) where
+module _ (s : Settings) (va : VirtAddr) (a : Way) (m : List ℕ) where
   -- the path, its end, and the first entry that lacks a right
   abbrev p : Path
   p = walkPath s va m
@@ -34,16 +38,16 @@ module _ (s : Settings) (va : VirtAddr) (a : Access) (m : List ℕ) where
   o = first (lacks s a) (entries p)
 
   ok : Sound s m 4 p
-  ok = sound s m va 3 (root s)
+  ok = sound s m va 3 (root s .0)
 
-  known : (k : ℕ) × (k ≤ 4) × SoundEnd s m k x
-  known = at-end s m 4 p ok
+  its-end : (k : ℕ) × (k ≤ 4) × SoundEnd s m k x
+  its-end = at-end s m 4 p ok
 
   stop : first (stops s) (entries p) ≡ stopping s m x
   stop = first-stop s m 4 p ok
 
   told : verdict.reply s va a m p ≡ verdict.verdict s va a m p x o
-  told = verdict.at-ending s va a m p (known .0) x (known .1) (known .2)
+  told = verdict.at-ending s va a m p (its-end .0) x (its-end .1) (its-end .2)
 
   -- the answer where the first entry that lacks a right is given
   told-with : (q : Option Entry) → o ≡ q → verdict.reply s va a m p ≡ verdict.verdict s va a m p x q
@@ -51,20 +55,28 @@ module _ (s : Settings) (va : VirtAddr) (a : Access) (m : List ℕ) where
 
   gives : Gives s va a m
   gives = record {
-    where-due = λ whole clear allowed. verdict.address s va a m p x (known .0) (known .1) (known .2) stop (last-read p) (told-with none allowed) whole clear;
+    where-due = λ whole clear allowed. verdict.address s va a m p x (its-end .0) (its-end .1) (its-end .2) stop (last-read p) (told-with none allowed) whole clear;
     only-there = λ at size n done. verdict.only s va a m p x o stop refl told at size n done;
   }
+
+  -- a fault at an entry, where the code is another's
+  fault : (e : Entry) {c d : ℕ} → c ≡ d → Answer.Fault c (e .level) (length (entries p)) ≡ Answer.Fault d (e .level) (length (entries p))
+  fault e same = ap (λ (c : ℕ). Answer.Fault c (e .level) (length (entries p))) same
 
   refuses : Refuses s va a m
   refuses = record {
     at-outside = λ l at is. (
-      subst (SoundEnd s m (known .0)) is (known .2) .2,
+      subst (SoundEnd s m (its-end .0)) is (its-end .2) .2,
       stop ∙ ap (stopping s m) is,
       told ∙ ap (λ (y : End). verdict.verdict s va a m p y o) is,
     );
-    at-missing = λ e found clear. verdict.missing-first s va a m p x o (known .0) (known .2) stop (last-read p) told e found clear;
-    at-reserved = λ e found present. verdict.reserved-first s va a m p x o (known .0) (known .2) stop (last-read p) told e found present;
-    at-rights = λ whole clear e found. verdict.lacking-first s va a m p x stop e (told-with (some e) found) whole clear;
+    at-missing = λ e found clear.
+        let first-one = verdict.missing-first s va a m p x o (its-end .0) (its-end .2) stop (last-read p) told e found clear in
+        (first-one .0, first-one .1 ∙ fault e (missing-code s a));
+    at-reserved = λ e found present.
+        let first-one = verdict.reserved-first s va a m p x o (its-end .0) (its-end .2) stop (last-read p) told e found present in
+        (first-one .0, first-one .1 ∙ fault e (reserved-code s a));
+    at-rights = λ whole clear e found. verdict.lacking-first s va a m p x stop e (told-with (some e) found) whole clear ∙ fault e (rights-code s a);
   }
 
   marks : Marks s va a m
@@ -72,7 +84,8 @@ module _ (s : Settings) (va : VirtAddr) (a : Access) (m : List ℕ) where
     on-success = λ at size n done i k.
         let end : (e : Entry) × (base : ℕ) × (x ≡ page e base) = verdict.page-end s va a m p x o told at size n done in
         ap (λ (z : List ℕ). bit (getD z i 0) k) (verdict.marked s va a m p (ended (needed s a) p x) at size n done)
-        ∙ marks-bit s m (a .write) i k 4 p ok (end .0) (end .1) (end .2);
+        ∙ marks-bit s m (writes a) i k 4 p ok (end .0) (end .1) (end .2)
+        ∙ ap (λ (b : Bool). bit (getD m i 0) k || b) (due-access (a .access) (entries p) i k);
     on-refusal = λ never. verdict.unmarked s va a m p (ended (needed s a) p x) never;
     no-longer = verdict.same-length s va a m p (ended (needed s a) p x);
   }
@@ -101,15 +114,34 @@ module _ (s : Settings) (va : VirtAddr) (a : Access) (m : List ℕ) where
     of-outside = λ at l n out. fewer n (counted (Answer.Outside at l n) out) (verdict.outside-only s va a m p x o told at l n out);
   }
 
-pub demand2 : (s : Settings) (address : VirtAddr) (a : Access) (memory : List ℕ) → Demand2 s address a memory
+pub demand2 : (s : Settings) (address : VirtAddr) (a : Way) (memory : List ℕ) → Demand2 s address a memory
 demand2 s address a memory = record {
-  reads = follows s memory address 3 (root s);
+  reads = follows s memory address 3 (root s .0);
   gives = gives s address a memory;
   refuses = refuses s address a memory;
   marks = marks s address a memory;
   counts = counts s address a memory;
 }
 
+-- the numbers of a way are known, and are its numbers
+known-way : (x : Access) (user : Bool) → known (accessNumber x) (modeNumber user) ≡ true
+known-way Read true = refl
+known-way Read false = refl
+known-way Write true = refl
+known-way Write false = refl
+known-way Fetch true = refl
+known-way Fetch false = refl
+
+way-of : (x : Access) (user : Bool) → wayOf (accessNumber x) (modeNumber user) ≡ record { access = x; user = user }
+way-of Read true = refl
+way-of Read false = refl
+way-of Write true = refl
+way-of Write false = refl
+way-of Fetch true = refl
+way-of Fetch false = refl
+
 pub walks : Walks
 unfolding translated translatedMemory
-walks s address access mode memory known served on canonical = (rw (known, served, on, canonical) refl, rw (known, served, on, canonical) refl)
+walks s address a memory on served canonical =
+    let tested : asked s address (accessNumber (a .access)) (modeNumber (a .user)) ≡ Asked.On a = rw (known-way (a .access) (a .user), served, on, canonical) (ap Asked.On (way-of (a .access) (a .user))) in
+    (ap (fresh s address memory) tested, ap (freshMemory s address memory) tested)

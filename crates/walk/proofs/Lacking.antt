@@ -9,8 +9,10 @@ use Rattle.settings.specs.declared.Settings.{Settings}
 use Rattle.entry.specs.Rights.{number, own, allow}
 use Rattle.entry.proofs.Meeting.{allow-each}
 use Rattle.walk.specs.declared.Access.{Access}
-use Rattle.walk.specs.Access.{needed, needsWrite, needsUser, needsFetch}
-use Rattle.walk.specs.Demand2.{first, lacks}
+use Rattle.walk.specs.declared.Access.the-variants.{Read, Write, Fetch}
+use Rattle.walk.specs.declared.Way.{Way}
+use Rattle.walk.specs.Access.{isWrite, isFetch, needed, needsWrite, needsUser, needsFetch}
+use Rattle.walk.specs.Demand2.{first, forbids, lacks}
 use Rattle.walk.specs.Path.{Entry, every, report}
 
 -- a right is held where it is needed
@@ -79,37 +81,63 @@ level-first : (b : Bool) (e : Entry) (o : Option Entry) → cond b (levelOf o) (
 level-first true e o = refl
 level-first false e o = refl
 
-module _ (s : Settings) (a : Access) where
+and-comm : (a b : Bool) → (a && b) ≡ (b && a)
+and-comm true true = refl
+and-comm true false = refl
+and-comm false true = refl
+and-comm false false = refl
+
+either : (a b c : Bool) → (c || (a && b)) ≡ ((b && a) || (c || false))
+either true true true = refl
+either true true false = refl
+either true false true = refl
+either true false false = refl
+either false true true = refl
+either false true false = refl
+either false false true = refl
+either false false false = refl
+
+-- what an entry lacks by the paper's bits it lacks of the rights needed
+lacks-needed : (s : Settings) (x : Access) (user : Bool) (e : Entry)
+    → ((user && not (bit (e .value) 2)) || forbids s x user e)
+    ≡ (((isWrite x && (user || bit (s .cr0) 16)) && not (bit (e .value) 1))
+    || ((user && not (bit (e .value) 2)) || ((isFetch x && bit (s .efer) 11) && bit (e .value) 63)))
+lacks-needed s Read user e = refl
+lacks-needed s Write user e = either (not (bit (e .value) 1)) (user || bit (s .cr0) 16) (user && not (bit (e .value) 2))
+lacks-needed s Fetch user e = ap (λ (b : Bool). (user && not (bit (e .value) 2)) || b) (and-comm (bit (e .value) 63) (bit (s .efer) 11))
+
+module _ (s : Settings) (a : Way) where
   -- an entry lacks a right where its own rights do not allow the access
   pub lacks-own : (e : Entry) → lacks s a e ≡ not (allow (needed s a) (own (e .value)))
   lacks-own e =
-      lacking (needsWrite s a) (needsUser a) (needsFetch s a) (bit (e .value) 1) (bit (e .value) 2) (bit (e .value) 63)
+      lacks-needed s (a .access) (a .user) e
+      ∙ lacking (needsWrite s a) (needsUser a) (needsFetch s a) (bit (e .value) 1) (bit (e .value) 2) (bit (e .value) 63)
       ∙ ap not (sym (allow-each (needsWrite s a) (needsUser a) (needsFetch s a) (bit (e .value) 1) (bit (e .value) 2) (not (bit (e .value) 63))))
 
   -- R/W in all, U/S in all, XD in none
-  abbrev writes : List Entry → Bool
-  writes es = every (λ (v : ℕ). bit v 1) es
+  abbrev allWrite : List Entry → Bool
+  allWrite es = every (λ (v : ℕ). bit v 1) es
 
-  abbrev users : List Entry → Bool
-  users es = every (λ (v : ℕ). bit v 2) es
+  abbrev allUser : List Entry → Bool
+  allUser es = every (λ (v : ℕ). bit v 2) es
 
-  abbrev fetches : List Entry → Bool
-  fetches es = every (λ (v : ℕ). not (bit v 63)) es
+  abbrev allFetch : List Entry → Bool
+  allFetch es = every (λ (v : ℕ). not (bit v 63)) es
 
   -- the combined rights allow exactly where no entry lacks one
-  pub allowed : (es : List Entry) → allow (needed s a) (number (writes es) (users es) (fetches es)) ≡ isNone (first (lacks s a) es)
+  pub allowed : (es : List Entry) → allow (needed s a) (number (allWrite es) (allUser es) (allFetch es)) ≡ isNone (first (lacks s a) es)
   unfolding every first
   allowed [] =
       allow-each (needsWrite s a) (needsUser a) (needsFetch s a) true true true
       ∙ ap₃ all3 (ok-true (needsWrite s a)) (ok-true (needsUser a)) (ok-true (needsFetch s a))
   allowed (e ∷ es) =
-      allow-each (needsWrite s a) (needsUser a) (needsFetch s a) (bit (e .value) 1 && writes es) (bit (e .value) 2 && users es) (not (bit (e .value) 63) && fetches es)
-      ∙ ap₃ all3 (ok-and (needsWrite s a) (bit (e .value) 1) (writes es)) (ok-and (needsUser a) (bit (e .value) 2) (users es)) (ok-and (needsFetch s a) (not (bit (e .value) 63)) (fetches es))
+      allow-each (needsWrite s a) (needsUser a) (needsFetch s a) (bit (e .value) 1 && allWrite es) (bit (e .value) 2 && allUser es) (not (bit (e .value) 63) && allFetch es)
+      ∙ ap₃ all3 (ok-and (needsWrite s a) (bit (e .value) 1) (allWrite es)) (ok-and (needsUser a) (bit (e .value) 2) (allUser es)) (ok-and (needsFetch s a) (not (bit (e .value) 63)) (allFetch es))
       ∙ rows (ok (needsWrite s a) (bit (e .value) 1)) (ok (needsUser a) (bit (e .value) 2)) (ok (needsFetch s a) (not (bit (e .value) 63)))
-      (ok (needsWrite s a) (writes es)) (ok (needsUser a) (users es)) (ok (needsFetch s a) (fetches es))
+      (ok (needsWrite s a) (allWrite es)) (ok (needsUser a) (allUser es)) (ok (needsFetch s a) (allFetch es))
       ∙ ap₂ (λ (x y : Bool). x && y)
       (sym (allow-each (needsWrite s a) (needsUser a) (needsFetch s a) (bit (e .value) 1) (bit (e .value) 2) (not (bit (e .value) 63))))
-      (sym (allow-each (needsWrite s a) (needsUser a) (needsFetch s a) (writes es) (users es) (fetches es)) ∙ allowed es)
+      (sym (allow-each (needsWrite s a) (needsUser a) (needsFetch s a) (allWrite es) (allUser es) (allFetch es)) ∙ allowed es)
       ∙ none-first (allow (needed s a) (own (e .value))) e (first (lacks s a) es)
       ∙ ap (λ (b : Bool). isNone (cond b (some e) (first (lacks s a) es))) (sym (lacks-own e))
 

@@ -1,13 +1,12 @@
 -- The recursion's laws: one for each way that a level ends, in plain variables.
-use Prim.Native.Nat.{ℕ, zero, suc, _+_, _-_, _*_, _/_, _≤_, _<_, _^_}
+use Prim.Native.Nat.{ℕ, suc, _+_, _-_, _*_, _/_, _≤_, _<_, _^_}
 use native.Mathlib.Nat.{add-zero, mod-lt}
 use native.Mathlib.Omega.{arith}
 use mathlib.Core.Path.{_≡_, refl, ap, ap₂, sym, _∙_}
 use mathlib.Core.Bool.{Bool, true, false, not, _&&_, cond}
-use mathlib.Core.List.{List, [], _∷_}
+use mathlib.Core.List.{List}
 use lib.Bits.{bitAnd}
 use lib.Dec.{lit<}
-use lib.ListN.{length}
 use Rattle.word.specs.Bits.{bit}
 use Rattle.word.specs.Bytes.{load, inside, loaded}
 use Rattle.word.specs.declared.Loaded.{Loaded}

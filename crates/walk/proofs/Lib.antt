@@ -1,5 +1,6 @@
 pub mod Asking
 pub mod Bits
+pub mod Codes
 pub mod Demand2
 pub mod Lacking
 pub mod Laws

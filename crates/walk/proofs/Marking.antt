@@ -12,6 +12,9 @@ use Rattle.word.specs.Bits.{bit}
 use Rattle.word.specs.Bytes.{inside}
 use Rattle.settings.specs.declared.Settings.{Settings}
 use Rattle.entry.specs.Mark.{markByte}
+use Rattle.walk.specs.declared.Access.{Access}
+use Rattle.walk.specs.declared.Access.the-variants.{Read, Write, Fetch}
+use Rattle.walk.specs.Access.{isWrite}
 use Rattle.walk.specs.Demand2.{last, someAt, liesAt, due}
 use Rattle.walk.specs.Path.{Path, Entry, ends, next, outside, missing, reserved, page, entries, endOf, marks}
 use Rattle.walk.proofs.Bits.{mark-bit}
@@ -68,9 +71,23 @@ last-next e (ends (reserved g)) f base h = refl
 last-next e (ends (page g b)) f base h = refl
 last-next e (next g p) f base h = refl
 
+-- what is due, where it is known whether memory is written
+abbrev dueIf : Bool → List Entry → ℕ → ℕ → Bool
+dueIf write es i k = (eqb k 5 && someAt i es) || (eqb k 6 && (write && liesAt i (last es)))
+
+nothing-more : (a b : Bool) → (a || (b && false)) ≡ a
+nothing-more true b = refl
+nothing-more false true = refl
+nothing-more false false = refl
+
+pub due-access : (x : Access) (es : List Entry) (i k : ℕ) → dueIf (isWrite x) es i k ≡ due x es i k
+due-access Read es i k = nothing-more (eqb k 5 && someAt i es) (eqb k 6)
+due-access Write es i k = refl
+due-access Fetch es i k = nothing-more (eqb k 5 && someAt i es) (eqb k 6)
+
 -- a bit is set after the marks exactly if it was set or is due
 pub marks-bit : (s : Settings) (m : List ℕ) (write : Bool) (i k l : ℕ) (p : Path) → Sound s m l p → (f : Entry) (base : ℕ) → endOf p ≡ page f base
-    → bit (getD (marks write p m) i 0) k ≡ (bit (getD m i 0) k || due write (entries p) i k)
+    → bit (getD (marks write p m) i 0) k ≡ (bit (getD m i 0) k || dueIf write (entries p) i k)
 unfolding marks entries endOf last someAt
 marks-bit s m write i k l (ends (outside j at)) h f base is = absurd (let z : _≡_ {A = ℕ} 0 1 = cc in omega arith)
 marks-bit s m write i k l (ends (missing e)) h f base is = absurd (let z : _≡_ {A = ℕ} 0 1 = cc in omega arith)

@@ -14,7 +14,7 @@ use Rattle.settings.specs.declared.Settings.{Settings}
 use Rattle.settings.specs.Settings.{nxe}
 use Rattle.address.specs.declared.VirtAddr.{VirtAddr}
 use Rattle.address.specs.Address.{index}
-use Rattle.entry.specs.Says.{says, told, pageBase, tableBase, isPage}
+use Rattle.entry.specs.Says.{says, saysBy, pageBase, tableBase, isPage}
 use Rattle.entry.specs.Says as say
 use Rattle.walk.specs.Demand2.{first, last, stops, allInside, follow}
 use Rattle.walk.specs.Path.{Path, End, Entry, ends, next, outside, missing, reserved, page, onward, path, entries, endOf}
@@ -46,7 +46,7 @@ module _ (s : Settings) (m : List ℕ) where
     one-level : (is-inside present broken whole : Bool) → inside m at ≡ is-inside → bit v 0 ≡ present
         → say.reserved (s .width) (nxe s) (suc l) v ≡ broken → isPage (suc l) v ≡ whole
         → ((t : ℕ) → whole ≡ false → Sound l (rest t))
-        → Sound (suc l) (cond is-inside (onward (told present broken whole (suc l) v) this rest) (ends (outside (suc l) at)))
+        → Sound (suc l) (cond is-inside (onward (saysBy present broken whole (suc l) v) this rest) (ends (outside (suc l) at)))
     one-level false present broken whole i p r w f = (omega arith, refl, i)
     one-level true false broken whole i p r w f = (omega arith, refl, i, p)
     one-level true true true whole i p r w f = (omega arith, refl, i, p, r)
@@ -130,7 +130,7 @@ module _ (s : Settings) (m : List ℕ) (va : VirtAddr) where
     -- what one level gives
     abbrev one : Bool → Bool → Bool → Bool → Path
     one is-inside present broken whole =
-        cond is-inside (onward (told present broken whole (suc l) v) (record { level = suc l; address = at; value = v }) rest) (ends (outside (suc l) at))
+        cond is-inside (onward (saysBy present broken whole (suc l) v) (record { level = suc l; address = at; value = v }) rest) (ends (outside (suc l) at))
 
     -- one level, by its tests
     follow-one : (is-inside present broken whole : Bool) → inside m at ≡ is-inside → bit v 0 ≡ present

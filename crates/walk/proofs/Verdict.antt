@@ -15,14 +15,14 @@ use Rattle.address.specs.declared.VirtAddr.{VirtAddr}
 use Rattle.address.specs.Address.{offset, pageBits}
 use Rattle.address.proofs.Laws.{plus-plain}
 use Rattle.entry.specs.Says.{pageBase}
-use Rattle.walk.specs.declared.Access.{Access}
+use Rattle.walk.specs.declared.Way.{Way}
 use Rattle.walk.specs.declared.Answer.{Answer}
 use Rattle.walk.specs.declared.Answer.the-variants as Answer
 use Rattle.walk.specs.declared.Cause.the-variants.{Rights}
 use Rattle.walk.specs.declared.Walked.{Walked}
 use Rattle.walk.specs.declared.Walked.the-variants.{Mapped, Refused, Outside}
-use Rattle.walk.specs.Access.{known, needed, needsFetch}
-use Rattle.walk.specs.Demand2.{first, last, stops, lacks, allInside, due}
+use Rattle.walk.specs.Access.{needed, needsFetch, writes}
+use Rattle.walk.specs.Demand2.{first, last, stops, lacks, allInside}
 use Rattle.walk.specs.Path.{Path, End, Entry, outside, missing, reserved, page, entries, endOf, reads, rights, marks}
 use Rattle.walk.specs.Translate.{answered, codeOf}
 use Rattle.walk.specs.Walk.{ended, after}
@@ -46,7 +46,7 @@ sum-small va l v low =
     let top : offset va l < 2 ^ 52 = lt-of-lt-of-le (offset-small va l) (pow-mono {i = pageBits l} {j = 52} (omega arith)) in
     omega (arith, base-small l v low)
 
-module _ (s : Settings) (va : VirtAddr) (a : Access) (m : List ℕ) (p : Path) where
+module _ (s : Settings) (va : VirtAddr) (a : Way) (m : List ℕ) (p : Path) where
   -- the answer along the path
   abbrev pub reply : Answer
   reply = answered s va a (ended (needed s a) p (endOf p))
@@ -54,10 +54,10 @@ module _ (s : Settings) (va : VirtAddr) (a : Access) (m : List ℕ) (p : Path) w
   -- what is answered at an end, where the first entry that lacks a right is known
   abbrev pub verdict : End → Option Entry → Answer
   verdict (outside l at) o = Answer.Outside (record { 0 = at }) l (length (entries p))
-  verdict (missing e) o = Answer.Fault (codeOf false (a .write) (a .user) false (needsFetch s a)) (e .level) (length (entries p))
-  verdict (reserved e) o = Answer.Fault (codeOf true (a .write) (a .user) true (needsFetch s a)) (e .level) (length (entries p))
+  verdict (missing e) o = Answer.Fault (codeOf false (writes a) (a .user) false (needsFetch s a)) (e .level) (length (entries p))
+  verdict (reserved e) o = Answer.Fault (codeOf true (writes a) (a .user) true (needsFetch s a)) (e .level) (length (entries p))
   verdict (page e base) none = Answer.Done (record { 0 = base + offset va (e .level) }) (e .level) (length (entries p))
-  verdict (page e base) (some f) = Answer.Fault (codeOf true (a .write) (a .user) false (needsFetch s a)) (f .level) (length (entries p))
+  verdict (page e base) (some f) = Answer.Fault (codeOf true (writes a) (a .user) false (needsFetch s a)) (f .level) (length (entries p))
 
   -- the answer at a page
   at-page : (e : Entry) (base : ℕ) → base + offset va (e .level) < 2 ^ 64 → (o : Option Entry)
@@ -126,11 +126,11 @@ module _ (s : Settings) (va : VirtAddr) (a : Access) (m : List ℕ) (p : Path) w
       → (allInside x ≡ true → last (entries p) ≡ ending x) → reply ≡ verdict x o
       → (e : Entry) → first (stops s) (entries p) ≡ some e → bit (e .value) 0 ≡ false
       → (last (entries p) ≡ some e)
-      × (reply ≡ Answer.Fault (codeOf false (a .write) (a .user) false (needsFetch s a)) (e .level) (length (entries p)))
+      × (reply ≡ Answer.Fault (codeOf false (writes a) (a .user) false (needsFetch s a)) (e .level) (length (entries p)))
   missing-first (outside l at) o k h stop end told e found clear = apart (cc)
   missing-first (missing f) o k h stop end told e found clear =
       let same : f ≡ e = cc in
-      (end refl ∙ ap some same, told ∙ ap (λ (g : Entry). Answer.Fault (codeOf false (a .write) (a .user) false (needsFetch s a)) (g .level) (length (entries p))) same)
+      (end refl ∙ ap some same, told ∙ ap (λ (g : Entry). Answer.Fault (codeOf false (writes a) (a .user) false (needsFetch s a)) (g .level) (length (entries p))) same)
   missing-first (reserved f) o k h stop end told e found clear =
       let same : f ≡ e = cc in
       absurd (false≢true (sym clear ∙ ap (λ (g : Entry). bit (g .value) 0) (sym same) ∙ h .3))
@@ -141,41 +141,41 @@ module _ (s : Settings) (va : VirtAddr) (a : Access) (m : List ℕ) (p : Path) w
       → (allInside x ≡ true → last (entries p) ≡ ending x) → reply ≡ verdict x o
       → (e : Entry) → first (stops s) (entries p) ≡ some e → bit (e .value) 0 ≡ true
       → (last (entries p) ≡ some e)
-      × (reply ≡ Answer.Fault (codeOf true (a .write) (a .user) true (needsFetch s a)) (e .level) (length (entries p)))
+      × (reply ≡ Answer.Fault (codeOf true (writes a) (a .user) true (needsFetch s a)) (e .level) (length (entries p)))
   reserved-first (outside l at) o k h stop end told e found present = apart (cc)
   reserved-first (missing f) o k h stop end told e found present =
       let same : f ≡ e = cc in
       absurd (false≢true (sym (h .3) ∙ ap (λ (g : Entry). bit (g .value) 0) same ∙ present))
   reserved-first (reserved f) o k h stop end told e found present =
       let same : f ≡ e = cc in
-      (end refl ∙ ap some same, told ∙ ap (λ (g : Entry). Answer.Fault (codeOf true (a .write) (a .user) true (needsFetch s a)) (g .level) (length (entries p))) same)
+      (end refl ∙ ap some same, told ∙ ap (λ (g : Entry). Answer.Fault (codeOf true (writes a) (a .user) true (needsFetch s a)) (g .level) (length (entries p))) same)
   reserved-first (page f base) o k h stop end told e found present = apart (cc)
 
   -- the first entry that lacks a right
   pub lacking-first : (x : End) → first (stops s) (entries p) ≡ stopping s m x → (e : Entry) → reply ≡ verdict x (some e)
       → allInside x ≡ true → first (stops s) (entries p) ≡ none
-      → reply ≡ Answer.Fault (codeOf true (a .write) (a .user) false (needsFetch s a)) (e .level) (length (entries p))
+      → reply ≡ Answer.Fault (codeOf true (writes a) (a .user) false (needsFetch s a)) (e .level) (length (entries p))
   lacking-first (outside l at) stop e told whole clear = absurd (false≢true whole)
   lacking-first (missing f) stop e told whole clear = apart (cc)
   lacking-first (reserved f) stop e told whole clear = apart (cc)
   lacking-first (page f base) stop e told whole clear = told
 
   -- memory after an answer
-  pub marked : (w : Walked) (at : PhysAddr) (size n : ℕ) → answered s va a w ≡ Answer.Done at size n → after (a .write) p m w ≡ marks (a .write) p m
+  pub marked : (w : Walked) (at : PhysAddr) (size n : ℕ) → answered s va a w ≡ Answer.Done at size n → after (writes a) p m w ≡ marks (writes a) p m
   unfolding after
   marked (Mapped f) at size n done = refl
   marked (Refused cause r) at size n done = apart (cc)
   marked (Outside b l r) at size n done = apart (cc)
 
-  pub unmarked : (w : Walked) → ((at : PhysAddr) (size n : ℕ) → answered s va a w ≡ Answer.Done at size n → ⊥) → after (a .write) p m w ≡ m
+  pub unmarked : (w : Walked) → ((at : PhysAddr) (size n : ℕ) → answered s va a w ≡ Answer.Done at size n → ⊥) → after (writes a) p m w ≡ m
   unfolding after
   unmarked (Mapped f) never = absurd (never _ _ _ refl)
   unmarked (Refused cause r) never = refl
   unmarked (Outside b l r) never = refl
 
-  pub same-length : (w : Walked) → length (after (a .write) p m w) ≡ length m
+  pub same-length : (w : Walked) → length (after (writes a) p m w) ≡ length m
   unfolding after
-  same-length (Mapped f) = marks-length (a .write) p m
+  same-length (Mapped f) = marks-length (writes a) p m
   same-length (Refused cause r) = refl
   same-length (Outside b l r) = refl
 

@@ -5,7 +5,6 @@ use mathlib.Core.List.{List, [], _∷_}
 use lib.ListN.{length}
 use Rattle.word.specs.Bits.{bit}
 use Rattle.word.specs.Bytes.{load, inside}
-use Rattle.address.specs.declared.PhysAddr.{PhysAddr}
 use Rattle.address.specs.declared.VirtAddr.{VirtAddr}
 use Rattle.address.specs.Address.{index}
 use Rattle.entry.specs.declared.Says.{Says}
@@ -39,6 +38,7 @@ onward (Page base) e rest = ends (page e (base .0))
 onward (Table base) e rest = next e (rest (base .0))
 
 -- one level: "An entry is 8 bytes, little-endian, at table base plus 8 times index; it is inside when its address plus 8 is at most the memory's length."
+-- "Source document 001 lets an unmapped read give ones; here it is answer 4."
 abbrev pub level : (ℕ → ℕ → Says) → List ℕ → ℕ → ℕ → (ℕ → Path) → Path
 level tell memory l at rest =
     cond (inside memory at) (onward (tell l (load 8 memory at)) (record { level = l; address = at; value = load 8 memory at }) rest)
@@ -76,7 +76,7 @@ unfoldable pub every : (ℕ → Bool) → List Entry → Bool
 every test [] = true
 every test (e ∷ es) = test (e .value) && every test es
 
--- the rights of all entries together: R/W in all, U/S in all, XD in none
+-- the rights of all entries together: "User access needs U/S in all entries. A write needs R/W in all [..]. A fetch needs XD clear in all"
 abbrev pub rights : Path → ℕ
 rights p =
     number (every (λ (v : ℕ). bit v 1) (entries p)) (every (λ (v : ℕ). bit v 2) (entries p)) (every (λ (v : ℕ). not (bit v 63)) (entries p))

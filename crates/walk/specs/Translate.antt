@@ -1,14 +1,14 @@
 -- One uncached translation: "A translation is tested in this order: 1, 2, 3, then 4 and 5 as the walk meets them."
-use Prim.Native.Nat.{ℕ, _+_, _*_, _^_}
-use mathlib.Core.Bool.{Bool, true, false, not, _&&_, cond}
+use Prim.Native.Nat.{ℕ, _+_, _^_}
+use mathlib.Core.Path.{_≡_}
+use mathlib.Core.Bool.{Bool, true, false, cond}
 use mathlib.Core.List.{List}
 use lib.Dec.{ltb}
 use Rattle.settings.specs.declared.Settings.{Settings}
-use Rattle.settings.specs.Settings.{served, pg, nxe}
-use Rattle.address.specs.declared.PhysAddr.{PhysAddr}
+use Rattle.settings.specs.Settings.{served, pg}
 use Rattle.address.specs.declared.VirtAddr.{VirtAddr}
 use Rattle.address.specs.Address.{canonical, offset, plus}
-use Rattle.walk.specs.declared.Access.{Access}
+use Rattle.walk.specs.declared.Way.{Way}
 use Rattle.walk.specs.declared.Numbers.{Numbers}
 use Rattle.walk.specs.declared.Cause.{Cause}
 use Rattle.walk.specs.declared.Cause.the-variants.{Missing, Reserved, Rights}
@@ -18,7 +18,7 @@ use Rattle.walk.specs.declared.Asked.{Asked}
 use Rattle.walk.specs.declared.Asked.the-variants as Asked
 use Rattle.walk.specs.declared.Answer.{Answer}
 use Rattle.walk.specs.declared.Answer.the-variants as Answer
-use Rattle.walk.specs.Access.{known, accessOf, needsFetch}
+use Rattle.walk.specs.Access.{known, wayOf, needsFetch, writes}
 use Rattle.walk.specs.Walk.{walkAnswer, walkMemory}
 
 -- "Paging off: an address below 2^32 is its own physical address, else answer 3."
@@ -26,17 +26,17 @@ abbrev pub askedOff : VirtAddr → Asked
 askedOff address = cond (ltb (address .0) (2 ^ 32)) (Asked.Off (record { 0 = address .0 })) Asked.Form
 
 -- "Paging on: bits 63 to 47 must be equal, else 3."
-abbrev pub askedOn : VirtAddr → Access → Asked
+abbrev pub askedOn : VirtAddr → Way → Asked
 askedOn address a = cond (canonical address) (Asked.On a) Asked.Form
 
 -- the tests 1, 2 and 3, in this order
 abbrev pub asked : Settings → VirtAddr → ℕ → ℕ → Asked
 asked s address access mode =
     cond (known access mode)
-    (cond (served s) (cond (pg s) (askedOn address (accessOf access mode)) (askedOff address)) Asked.NotServed)
+    (cond (served s) (cond (pg s) (askedOn address (wayOf access mode)) (askedOff address)) Asked.NotServed)
     Asked.Unknown
 
--- the level that a cause reports
+-- "The level is that of the missing or reserved entry; for rights, the highest level whose own entry lacks any needed right"
 abbrev pub causeLevel : Cause → ℕ
 causeLevel (Missing l) = l
 causeLevel (Reserved l) = l
@@ -48,6 +48,7 @@ causePresent (Missing l) = false
 causePresent (Reserved l) = true
 causePresent (Rights l) = true
 
+-- "reserved bit 3": the cause sets it
 abbrev pub causeReserved : Cause → Bool
 causeReserved (Missing l) = false
 causeReserved (Reserved l) = true
@@ -59,16 +60,17 @@ codeOf present write user reserved fetch =
     cond present 1 0 + (cond write 2 0 + (cond user 4 0 + (cond reserved 8 0 + cond fetch 16 0)))
 
 -- the code of a cause; "Bit 4 is set exactly for a fetch with NXE = 1."
-abbrev pub code : Settings → Access → Cause → ℕ
-code s a cause = codeOf (causePresent cause) (a .write) (a .user) (causeReserved cause) (needsFetch s a)
+abbrev pub code : Settings → Way → Cause → ℕ
+code s a cause = codeOf (causePresent cause) (writes a) (a .user) (causeReserved cause) (needsFetch s a)
 
--- what a walk is answered
-abbrev pub answered : Settings → VirtAddr → Access → Walked → Answer
+-- what a walk is answered: 0 with the "physical address of a translation" and its size, 5 "page fault" with "error code" and "level",
+-- 4 "table entry [..] outside memory" with "its address" and "level"
+abbrev pub answered : Settings → VirtAddr → Way → Walked → Answer
 answered s address a (Mapped m) = Answer.Done (plus (m .base) (offset address (m .size))) (m .size) (m .reads)
 answered s address a (Refused cause n) = Answer.Fault (code s a cause) (causeLevel cause) n
 answered s address a (Outside at l n) = Answer.Outside at l n
 
--- what a question is answered by a fresh walk
+-- what a question is answered by a fresh walk: size "0 when paging is off", entries read "0 where no walk was made"
 abbrev pub fresh : Settings → VirtAddr → List ℕ → Asked → Answer
 fresh s address memory Asked.Unknown = Answer.Unknown
 fresh s address memory Asked.NotServed = Answer.NotServed
@@ -92,7 +94,12 @@ translated s address access mode memory = fresh s address memory (asked s addres
 unfoldable pub translatedMemory : Settings → VirtAddr → ℕ → ℕ → List ℕ → List ℕ
 translatedMemory s address access mode memory = freshMemory s address memory (asked s address access mode)
 
--- a refusal with value and detail 0 and no entry read
+-- an answer and memory after it are those of one uncached translation
+abbrev pub IsTranslation : Settings → VirtAddr → ℕ → ℕ → List ℕ → Answer → List ℕ → Type 0
+IsTranslation s address access mode memory answer left =
+    (answer ≡ translated s address access mode memory) × (left ≡ translatedMemory s address access mode memory)
+
+-- a refusal with no entry read: "Numbers added later have value and detail 0 unless a request says otherwise."
 abbrev pub refusal : ℕ → Numbers
 refusal number = record { answer = number; value = 0; detail = 0; reads = 0 }
 

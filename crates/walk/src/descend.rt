@@ -11,16 +11,9 @@ use entry::read::look;
 use entry::rights::allow;
 use entry::rights::own;
 use word::Loaded;
-ghost use mathlib.Core.Bool.{cond};
 ghost use mathlib.Core.Path.{_≡_};
-ghost use Prim.Native.Nat.{_+_, _-_, _≤_, _^_};
-ghost use lib.Bits.{bitAnd};
-ghost use Rattle.entry.specs.Mark as marking;
-ghost use Rattle.entry.specs.Rights as right;
-ghost use Rattle.entry.specs.Says as say;
-ghost use Rattle.walk.specs.Descent.{walkedBelow, atPage, higher};
-ghost use Rattle.walk.specs.Path.{path};
-ghost use Rattle.walk.specs.Walk.{after};
+ghost use Prim.Native.Nat.{_+_, _≤_, _^_};
+ghost use Rattle.walk.specs.Descent.{IsEnd, IsDescent, higher};
 
 // The number of levels.
 pub(crate) const LEVELS: u64 = 4;
@@ -54,7 +47,7 @@ fn end(
     held: u64,
 ) -> Walked
     requires { ⌜ level ≤ 4 ⌝ }
-    ensures { λ r. ⌜ (r ≡ atPage needed held level entry page) × (now (memory .exit) ≡ cond (right.allow needed (bitAnd held (right.own entry))) (marking.mark write (now (memory .entry)) (at .0)) (now (memory .entry))) ⌝ }
+    ensures { λ r. ⌜ IsEnd needed held write level entry at page (now (memory .entry)) r (now (memory .exit)) ⌝ }
 {
     let own = own(entry);
     let rights = held & own;
@@ -65,7 +58,7 @@ fn end(
             base: page,
             last: entry,
             rights,
-            size: level,
+            size: level as u8,
             reads,
         });
     }
@@ -87,7 +80,7 @@ pub(crate) fn descend(
     held: u64,
 ) -> Walked
     requires { ⌜ (1 ≤ level) × (level ≤ 4) × (base .0 + 4096 ≤ 2 ^ 64) ⌝ }
-    ensures { λ r. ⌜ (r ≡ walkedBelow needed held (4 - level) (path (say.under mask) (now (memory .entry)) address level (base .0))) × (now (memory .exit) ≡ after write (path (say.under mask) (now (memory .entry)) address level (base .0)) (now (memory .entry)) r) ⌝ }
+    ensures { λ r. ⌜ IsDescent mask needed held write address level base (now (memory .entry)) r (now (memory .exit)) ⌝ }
 {
     let index = address.index(level);
     let at = base.entry(index);

@@ -4,18 +4,25 @@ use address::PhysAddr;
 mod descend;
 pub mod translate;
 pub mod walk;
+pub mod ways;
 
-// How memory is asked: a read is neither a write nor a fetch.
-pub struct Access {
-    pub write: bool,
-    pub fetch: bool,
+// "Access is 0 read, 1 write, 2 fetch."
+pub enum Access {
+    Read,
+    Write,
+    Fetch,
+}
+
+// The way in which memory is asked: the access, and whether the mode is user.
+pub struct Way {
+    pub access: Access,
     pub user: bool,
 }
 
 // What a walk that succeeds finds: the page's base and size, its last entry as read, the rights of all entries and the entries read.
 pub struct Mapping {
     pub base: PhysAddr,
-    pub size: u64,
+    pub size: u8,
     pub last: u64,
     pub rights: u64,
     pub reads: u64,
@@ -41,7 +48,7 @@ pub enum Asked {
     NotServed,
     Form,
     Off(PhysAddr),
-    On(Access),
+    On(Way),
 }
 
 // What a call is answered: address and size, or address and level, or code and level, each with the entries read.

@@ -1,12 +1,13 @@
 // One uncached translation: the tests in order, the walk, the answer.
-use crate::Access;
 use crate::Answer;
 use crate::Asked;
 use crate::Cause;
 use crate::Numbers;
 use crate::Walked;
+use crate::Way;
 use crate::walk::needs_fetch;
 use crate::walk::walk;
+use crate::ways::way_of;
 use address::PhysAddr;
 use address::VirtAddr;
 use settings::Service;
@@ -14,7 +15,7 @@ use settings::Settings;
 ghost use mathlib.Core.Bool.{cond};
 ghost use mathlib.Core.Path.{_≡_};
 ghost use Prim.Native.Nat.{_≤_};
-ghost use Rattle.walk.specs.Access.{accessOf};
+ghost use Rattle.walk.specs.Access.{wayOf};
 ghost use Rattle.walk.specs.Translate as spec;
 
 // What the tests 1, 2 and 3 find, in this order.
@@ -42,14 +43,10 @@ pub fn ask(settings: Settings, address: VirtAddr, access: u64, mode: u64) -> Ask
 
 // Paging on: the address must be canonical.
 fn ask_on(address: VirtAddr, access: u64, mode: u64) -> Asked
-    ensures { λ r. ⌜ r ≡ spec.askedOn address (accessOf access mode) ⌝ }
+    ensures { λ r. ⌜ r ≡ spec.askedOn address (wayOf access mode) ⌝ }
 {
     if address.canonical() {
-        return Asked::On(Access {
-            write: access == 1,
-            fetch: access == 2,
-            user: mode == 1,
-        });
+        return Asked::On(way_of(access, mode));
     }
     Asked::Form
 }
@@ -84,29 +81,30 @@ fn code_of(present: bool, write: bool, user: bool, reserved: bool, fetch: bool) 
 }
 
 // The error code of a page fault.
-pub fn code(settings: Settings, access: Access, cause: Cause) -> u64
-    ensures { λ r. ⌜ r ≡ spec.code settings access cause ⌝ }
+pub fn code(settings: Settings, way: Way, cause: Cause) -> u64
+    ensures { λ r. ⌜ r ≡ spec.code settings way cause ⌝ }
 {
-    let fetch = needs_fetch(settings, access);
+    let write = way.writes();
+    let fetch = needs_fetch(settings, way);
     match cause {
-        Cause::Missing(_) => code_of(false, access.write, access.user, false, fetch),
-        Cause::Reserved(_) => code_of(true, access.write, access.user, true, fetch),
-        Cause::Rights(_) => code_of(true, access.write, access.user, false, fetch),
+        Cause::Missing(_) => code_of(false, write, way.user, false, fetch),
+        Cause::Reserved(_) => code_of(true, write, way.user, true, fetch),
+        Cause::Rights(_) => code_of(true, write, way.user, false, fetch),
     }
 }
 
 // What a walk is answered.
-pub fn answer(settings: Settings, address: VirtAddr, access: Access, walked: Walked) -> Answer
-    ensures { λ r. ⌜ r ≡ spec.answered settings address access walked ⌝ }
+pub fn answer(settings: Settings, address: VirtAddr, way: Way, walked: Walked) -> Answer
+    ensures { λ r. ⌜ r ≡ spec.answered settings address way walked ⌝ }
 {
     match walked {
         Walked::Mapped(m) => {
             let base = m.base;
-            let offset = address.offset(m.size);
-            Answer::Done(base.plus(offset), m.size, m.reads)
+            let size = m.size as u64;
+            Answer::Done(base.plus(address.offset(size)), size, m.reads)
         }
         Walked::Refused(cause, reads) => {
-            let code = code(settings, access, cause);
+            let code = code(settings, way, cause);
             Answer::Fault(code, cause_level(cause), reads)
         }
         Walked::Outside(at, level, reads) => Answer::Outside(at, level, reads),
@@ -132,7 +130,7 @@ pub fn translate(
     access: u64,
     mode: u64,
 ) -> Answer
-    ensures { λ r. ⌜ (r ≡ spec.translated settings address access mode (now (memory .entry))) × (now (memory .exit) ≡ spec.translatedMemory settings address access mode (now (memory .entry))) ⌝ }
+    ensures { λ r. ⌜ spec.IsTranslation settings address access mode (now (memory .entry)) r (now (memory .exit)) ⌝ }
 {
     let asked = ask(settings, address, access, mode);
     match asked {
@@ -140,9 +138,9 @@ pub fn translate(
         Asked::NotServed => Answer::NotServed,
         Asked::Form => Answer::Form,
         Asked::Off(at) => Answer::Done(at, 0, 0),
-        Asked::On(a) => {
-            let walked = walk(memory, settings, address, a);
-            answer(settings, address, a, walked)
+        Asked::On(way) => {
+            let walked = walk(memory, settings, address, way);
+            answer(settings, address, way, walked)
         }
     }
 }

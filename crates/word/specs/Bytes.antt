@@ -7,7 +7,7 @@ use lib.ListN.{length, getD, set}
 use Rattle.word.specs.declared.Loaded.{Loaded}
 use Rattle.word.specs.declared.Loaded.the-variants.{Value, Outside}
 
--- the number in the width bytes at an offset, the lowest byte first
+-- the number in the width bytes at an offset, the lowest byte first; "Guest memory is a lent run of bytes; physical address 0 is its first byte."
 unfoldable pub load : ℕ → List ℕ → ℕ → ℕ
 load zero bytes at = 0
 load (suc width) bytes at = getD bytes at 0 + 256 * load width bytes (suc at)

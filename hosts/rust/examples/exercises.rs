@@ -3,7 +3,7 @@
 
 use std::process::ExitCode;
 
-use aalbrett::{walk, Answer, Question, Settings};
+use aalbrett::{byte, walk, Answer, Question, Settings};
 use aalbrett::{FETCH, FORM, NOT_SERVED, READ, SUPERVISOR, UNKNOWN, USER, WRITE};
 
 const TABLES: [(usize, u64); 13] = [
@@ -239,12 +239,21 @@ fn changes(memory: &[u8]) -> Vec<(usize, u64)> {
         .collect()
 }
 
+/// What is to be said where a translation leads out of the memory lent.
+fn remark(answer: Answer, memory: &mut [u8]) -> &'static str {
+    match answer {
+        Answer::Done { address, .. } if byte(memory, address).is_none() => " (not in memory)",
+        _ => "",
+    }
+}
+
 /// Runs and prints one exercise on fresh tables; gives whether answer and memory are as known.
 fn run(exercise: &Exercise) -> bool {
     let mut memory = tables();
     let answer = walk(exercise.settings, exercise.question, &mut memory);
     let changes = changes(&memory);
-    print!("{}: {answer}", exercise.question);
+    let remark = remark(answer, &mut memory);
+    print!("{}: {answer}{remark}", exercise.question);
     for (at, entry) in &changes {
         print!("; {at:#x} becomes {entry:#x}");
     }

@@ -4,7 +4,7 @@
 
 use std::process::ExitCode;
 
-use aalbrett::{Answer, Card, Machine, Question, Settings, USER, WRITE};
+use aalbrett::{byte, Answer, Card, Machine, Place, Question, Settings, USER, WRITE};
 
 /// The driver's counter, its page's last table entry, and where the page lies before and after.
 const COUNTER: u64 = 0x40_3ABC;
@@ -34,7 +34,7 @@ impl Emulator {
         self.machine.step(&mut self.memory, &card.0)
     }
 
-    /// A press: the driver writes its counter where the machine says that it lies.
+    /// A press: the driver writes its counter where the machine says that it lies, if that is inside memory.
     fn press(&mut self) -> Answer {
         let answer = self.step(Card::translate(Question {
             address: COUNTER,
@@ -42,7 +42,7 @@ impl Emulator {
             mode: USER,
         }));
         if let Answer::Done { address, .. } = answer {
-            if let Some(count) = self.memory.get_mut(address as usize) {
+            if let Some(count) = byte(&mut self.memory, address) {
                 *count += 1;
             }
         }
@@ -70,8 +70,9 @@ impl Emulator {
     /// Prints what is remembered of the counter's page; gives whether it is the frame known.
     fn remembered(&self, frame: Option<u64>) -> bool {
         let tag = COUNTER / PAGE as u64;
-        let place = self.machine.sets[tag as usize % 16][0];
-        let held = (place.marked && place.tag == tag).then_some(place.frame);
+        let place = self.machine.record.sets[tag as usize % 16][0];
+        let marked = place.flags & Place::MARKED != 0;
+        let held = (marked && place.tag == tag).then_some(place.frame);
         match held {
             Some(frame) => println!("remembered: page {tag:#x} in frame {frame:#x}"),
             None => println!("remembered: nothing of page {tag:#x}"),

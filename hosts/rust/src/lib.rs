@@ -3,11 +3,14 @@
 mod answer;
 mod card;
 mod machine;
+mod memory;
 mod text;
 mod walk;
 
+pub use aalbrett_raw::{Place, Settings};
 pub use card::Card;
-pub use machine::{Machine, Place};
+pub use machine::Machine;
+pub use memory::byte;
 pub use walk::walk;
 
 /// Access: a read.
@@ -30,17 +33,6 @@ pub const NOT_SERVED: u64 = 2;
 pub const FORM: u64 = 3;
 /// Refused: the card is not of 32 bytes.
 pub const CARD_SHORT: u64 = 6;
-
-/// The registers and the physical width M in bits.
-#[repr(C)]
-#[derive(Clone, Copy, Debug, PartialEq, Eq)]
-pub struct Settings {
-    pub cr0: u64,
-    pub cr3: u64,
-    pub cr4: u64,
-    pub efer: u64,
-    pub width: u64,
-}
 
 /// What is asked: a virtual address, how it is used and by whom.
 #[derive(Clone, Copy, Debug, PartialEq, Eq)]

@@ -1,135 +1,37 @@
 //! A machine that remembers, owned by the host.
 
+use aalbrett_raw as raw;
+
 use crate::answer::answered;
 use crate::{Answer, Settings};
 
-/// A remembered translation of one 4 KiB piece of a page; hosts/aalbrett.h says when it counts.
-#[repr(C)]
-#[derive(Clone, Copy, Debug, PartialEq, Eq)]
-pub struct Place {
-    pub tag: u64,
-    pub frame: u64,
-    pub size: u8,
-    pub marked: bool,
-    pub write: bool,
-    pub user: bool,
-    pub fetch: bool,
-    pub dirty: bool,
-    pub global: bool,
-}
-
-/// Settings and what is remembered: 16 sets of four places, the one filled last in front.
-#[repr(C)]
+/// A machine: its record may be read and written between steps, and hold anything.
 #[derive(Clone, Copy, Debug, PartialEq, Eq)]
 pub struct Machine {
-    pub settings: Settings,
-    pub sets: [[Place; 4]; 16],
+    pub record: raw::Machine,
 }
-
-extern "C" {
-    /// The archive's entries; hosts/aalbrett.h says what they do.
-    fn aalbrett_start(
-        machine: *mut Machine,
-        cr0: u64,
-        cr3: u64,
-        cr4: u64,
-        efer: u64,
-        width: u64,
-    ) -> u64;
-    fn aalbrett_step(
-        machine: *mut Machine,
-        memory: *mut u8,
-        memory_length: usize,
-        card: *const u8,
-        card_length: usize,
-        answer: *mut u8,
-        answer_length: usize,
-    ) -> u64;
-}
-
-/// A place that remembers nothing.
-const EMPTY: Place = Place {
-    tag: 0,
-    frame: 0,
-    size: 0,
-    marked: false,
-    write: false,
-    user: false,
-    fetch: false,
-    dirty: false,
-    global: false,
-};
 
 impl Machine {
     /// A machine with these settings that remembers nothing, and its answer: done, or refused with
     /// [`NOT_SERVED`](crate::NOT_SERVED) and a machine with all registers 0 and M = 40.
     pub fn start(settings: Settings) -> (Answer, Machine) {
-        let mut machine = Machine {
-            settings,
-            sets: [[EMPTY; 4]; 16],
-        };
-        // SAFETY: the machine is lent for the call, and has the layout of the archive's.
-        let number = unsafe {
-            aalbrett_start(
-                &mut machine,
-                settings.cr0,
-                settings.cr3,
-                settings.cr4,
-                settings.efer,
-                settings.width,
-            )
-        };
-        (answered(number, &[0; 32]), machine)
+        let mut record = raw::Machine::default();
+        let number = raw::start(&mut record, &settings);
+        (answered(number, &[0; 32]), Machine { record })
     }
 
     /// One card's step on the machine and guest memory, whose first byte is physical address 0.
     pub fn step(&mut self, memory: &mut [u8], card: &[u8]) -> Answer {
         let mut buffer = [0; 32];
-        // SAFETY: the machine has the layout of the archive's; all four are lent for the call, the
-        // slices with their own lengths, and do not overlap.
-        let number = unsafe {
-            aalbrett_step(
-                self,
-                memory.as_mut_ptr(),
-                memory.len(),
-                card.as_ptr(),
-                card.len(),
-                buffer.as_mut_ptr(),
-                buffer.len(),
-            )
-        };
+        let number = raw::step(&mut self.record, memory, card, &mut buffer);
         answered(number, &buffer)
     }
 }
 
 #[cfg(test)]
 mod tests {
-    use std::mem::{align_of, offset_of, size_of};
-
-    use super::{Machine, Place};
-    use crate::{Answer, Card, Question, Settings, CARD_SHORT, NOT_SERVED, USER, WRITE};
-
-    /// The layout is the one that hosts/aalbrett.h gives to C.
-    #[test]
-    fn the_layout_is_the_headers() {
-        assert_eq!((size_of::<Machine>(), align_of::<Machine>()), (1576, 8));
-        assert_eq!(offset_of!(Machine, settings), 0);
-        assert_eq!(offset_of!(Machine, settings.cr3), 8);
-        assert_eq!(offset_of!(Machine, settings.cr4), 16);
-        assert_eq!(offset_of!(Machine, settings.efer), 24);
-        assert_eq!(offset_of!(Machine, settings.width), 32);
-        assert_eq!(offset_of!(Machine, sets), 40);
-        assert_eq!((size_of::<Place>(), align_of::<Place>()), (24, 8));
-        assert_eq!(offset_of!(Place, tag), 0);
-        assert_eq!(offset_of!(Place, frame), 8);
-        assert_eq!(offset_of!(Place, size), 16);
-        assert_eq!(offset_of!(Place, marked), 17);
-        assert_eq!(offset_of!(Place, write), 18);
-        assert_eq!(offset_of!(Place, user), 19);
-        assert_eq!(offset_of!(Place, fetch), 20);
-        assert_eq!(offset_of!(Place, dirty), 21);
-        assert_eq!(offset_of!(Place, global), 22);
-    }
+    use super::Machine;
+    use crate::{Answer, Card, Place, Question, Settings, CARD_SHORT, NOT_SERVED, USER, WRITE};
 
     /// Paging on, PGE set, 40 physical bits.
     const SETTINGS: Settings = Settings {
@@ -152,7 +54,7 @@ mod tests {
     fn the_archive_has_the_same_fields() {
         let (answer, mut machine) = Machine::start(SETTINGS);
         assert_eq!(answer, DONE);
-        assert_eq!(machine.settings, SETTINGS);
+        assert_eq!(machine.record.settings, SETTINGS);
         let mut memory = vec![0; 0x5000];
         let entries = [
             (0x1000, 0x2007),
@@ -179,17 +81,12 @@ mod tests {
             tag: 0x403,
             frame: 0xBCDE,
             size: 1,
-            marked: true,
-            write: false,
-            user: true,
-            fetch: false,
-            dirty: false,
-            global: true,
+            flags: Place::USER | Place::GLOBAL | Place::MARKED,
         };
-        assert_eq!(machine.sets[3][0], place);
+        assert_eq!(machine.record.sets[3][0], place);
         let again = machine.step(&mut memory, &Card::translate(read).0);
         assert_eq!(again, found(0));
-        machine.sets[3][0].frame = 0x77;
+        machine.record.sets[3][0].frame = 0x77;
         let changed = machine.step(&mut memory, &Card::translate(read).0);
         assert!(matches!(
             changed,
@@ -204,7 +101,7 @@ mod tests {
         };
         let fault = machine.step(&mut memory, &Card::translate(write).0);
         assert!(matches!(fault, Answer::Fault { code: 7, .. }));
-        assert_eq!(machine.sets[3][0], super::EMPTY);
+        assert_eq!(machine.record.sets[3][0], Place::default());
     }
 
     /// A refused start, a short card, and every other kind of card.
@@ -216,7 +113,10 @@ mod tests {
         };
         let (answer, mut machine) = Machine::start(narrow);
         assert_eq!(answer, Answer::Refused(NOT_SERVED));
-        assert_eq!((machine.settings.cr3, machine.settings.width), (0, 40));
+        assert_eq!(
+            (machine.record.settings.cr3, machine.record.settings.width),
+            (0, 40)
+        );
         let mut memory = vec![0; 64];
         let short = machine.step(&mut memory, &[4; 31]);
         assert_eq!(short, Answer::Refused(CARD_SHORT));
@@ -239,6 +139,6 @@ mod tests {
             cr3: 0x2000,
             ..SETTINGS
         };
-        assert_eq!(machine.settings, loaded);
+        assert_eq!(machine.record.settings, loaded);
     }
 }

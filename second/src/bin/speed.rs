@@ -3,72 +3,17 @@
 use std::hint::black_box;
 use std::time::Instant;
 
+use aalbrett_raw::{self as raw, aalbrett_walk, timing_translations};
 use second::card::{Card, CARD};
 use second::case::store;
 use second::fast::fast_walk;
 use second::fast_cache::{self, fast_translations, FastMachine, Translations};
 use second::host::{call, HostWalk, Question};
 use second::random::Random;
+use second::record::raw_settings;
 use second::settings::Settings;
 use second::translate::{FETCH, READ, SUPERVISOR, USER, WRITE};
 
-extern "C" {
-    /// Starts the product's machine on a lent record.
-    fn aalbrett_start(
-        machine: *mut u64,
-        cr0: u64,
-        cr3: u64,
-        cr4: u64,
-        efer: u64,
-        width: u64,
-    ) -> u64;
-
-    /// One card's step of the product's machine, in place.
-    fn aalbrett_step(
-        machine: *mut u64,
-        memory: *mut u8,
-        memory_length: usize,
-        card: *const u8,
-        card_length: usize,
-        answer: *mut u8,
-        answer_length: usize,
-    ) -> u64;
-
-    /// The product's uncached walk.
-    fn aalbrett_walk(
-        cr0: u64,
-        cr3: u64,
-        cr4: u64,
-        efer: u64,
-        width: u64,
-        address: u64,
-        access: u64,
-        mode: u64,
-        memory: *mut u8,
-        memory_length: usize,
-        answer: *mut u8,
-        answer_length: usize,
-    ) -> u64;
-
-    /// A loop of the product's remembered translations by value.
-    fn timing_translations(
-        cr0: u64,
-        cr3: u64,
-        cr4: u64,
-        efer: u64,
-        width: u64,
-        access: u64,
-        mode: u64,
-        turns: u64,
-        addresses: *const u8,
-        addresses_length: usize,
-        memory: *mut u8,
-        memory_length: usize,
-    ) -> u64;
-}
-
-/// The machine's record in words of 8 bytes: five registers, 64 places of three words.
-const MACHINE: usize = 5 + 64 * 3;
 const STEPS: usize = 16;
 const QUESTIONS: usize = 64;
 const REPEATS: usize = 16;
@@ -192,7 +137,7 @@ fn time(walk: HostWalk, questions: &[Question], memory: &mut [u8]) -> f64 {
 
 /// 64 pages of which four fall into each set, so that all are held.
 fn held_pages() -> Vec<u8> {
-    let address = |page: u64| page << 12 | page * 61 % 4096;
+    let address = |page: u64| (page << 12) | (page * 61 % 4096);
     (0..64)
         .flat_map(|page| address(page).to_le_bytes())
         .collect()
@@ -200,7 +145,7 @@ fn held_pages() -> Vec<u8> {
 
 /// 64 pages of four sets, so that each falls out before it is asked for again.
 fn lost_pages() -> Vec<u8> {
-    let address = |page: u64| page << 21 | page % 4 << 12 | page * 61 % 4096;
+    let address = |page: u64| (page << 21) | ((page % 4) << 12) | (page * 61 % 4096);
     (0..64)
         .flat_map(|page| address(page).to_le_bytes())
         .collect()
@@ -275,40 +220,16 @@ fn cards((access, mode): (u64, u64), addresses: &[u8]) -> Vec<[u8; CARD]> {
     addresses.chunks_exact(8).map(card).collect()
 }
 
-/// One step of the product's machine on a record that this program owns.
-fn step(machine: &mut [u64; MACHINE], memory: &mut [u8], card: &[u8], answer: &mut [u8]) -> u64 {
-    // SAFETY: the record was started, and all four are lent for the call with their own lengths.
-    unsafe {
-        aalbrett_step(
-            machine.as_mut_ptr(),
-            memory.as_mut_ptr(),
-            memory.len(),
-            card.as_ptr(),
-            card.len(),
-            answer.as_mut_ptr(),
-            answer.len(),
-        )
-    }
-}
-
 /// Prints nanoseconds of a step in place of both machines and their ratio, for one kind of card.
 fn steps(name: &str, asked: (u64, u64), addresses: &[u8]) {
     let cards = cards(asked, addresses);
     let mut memory = memory();
-    let mut record = [0; MACHINE];
-    let Settings {
-        cr0,
-        cr3,
-        cr4,
-        efer,
-        width,
-    } = SETTINGS;
-    // SAFETY: the record has the machine's size and alignment.
-    unsafe { aalbrett_start(record.as_mut_ptr(), cr0, cr3, cr4, efer, width) };
+    let mut record = raw::Machine::default();
+    raw::start(&mut record, &raw_settings(&SETTINGS));
     let mut plain = FastMachine::start(SETTINGS);
     let (mut ours, mut theirs) = ([0; 32], [0; 32]);
     for card in &cards {
-        let number = step(&mut record, &mut memory, card, &mut ours);
+        let number = raw::step(&mut record, &mut memory, card, &mut ours);
         assert_eq!(number, plain.step(&mut memory, card, &mut theirs), "{name}");
         assert_eq!(ours, theirs, "{name}");
     }
@@ -317,7 +238,7 @@ fn steps(name: &str, asked: (u64, u64), addresses: &[u8]) {
     for _ in 0..ROUNDS {
         let start = Instant::now();
         for card in (0..STEPS).flat_map(|_| &cards) {
-            black_box(step(&mut record, &mut memory, card, &mut ours));
+            black_box(raw::step(&mut record, &mut memory, card, &mut ours));
         }
         best[0] = best[0].min(start.elapsed().as_nanos() as f64 / count);
         let start = Instant::now();

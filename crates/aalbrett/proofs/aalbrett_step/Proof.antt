@@ -43,14 +43,14 @@ use Rattle.walk.proofs.Numbers as N
 use Rattle.walk.proofs.Numbers.Laws as N′
 use Rattle.machine.specs.declared.Machine.{Machine}
 use Rattle.machine.proofs.Machine as T
-use Rattle.card.specs.Card.{Stepped}
+use Rattle.card.specs.Card.{Turned}
 use Rattle.card.proofs.Locals.{typeOf}
-use Rattle.card.proofs.lent.step as step
-use Rattle.card.proofs.lent.step.Symbol as step-def
-use Rattle.card.proofs.lent.step.Symbol.{name as #card·lent·step}
-use Rattle.card.proofs.lent.step.Met as step-thm
+use Rattle.card.proofs.probe.step as step
+use Rattle.card.proofs.probe.step.Symbol as step-def
+use Rattle.card.proofs.probe.step.Symbol.{name as #card·probe·step}
+use Rattle.card.proofs.probe.step.Met as step-thm
 use Rattle.aalbrett.specs.Host.{short, written}
-use Rattle.aalbrett.specs.Kept.{next, stepNumber, machineAfter, memoryAfter, bufferAfter}
+use Rattle.aalbrett.specs.Lent.{next, stepNumber, machineAfter, memoryAfter, bufferAfter}
 use Rattle.aalbrett.proofs.buffer.write as writes
 use Rattle.aalbrett.proofs.buffer.write.Symbol as writes-def
 use Rattle.aalbrett.proofs.buffer.write.Symbol.{name as #aalbrett·buffer·write}
@@ -110,7 +110,7 @@ module _ {M : Type 1} (𝓤 : URA M) (H : Heap 𝓤) (A : Atoms 𝓤) (W : Given
   Post = walkOf 𝓤 H A host.ended stayed (host.clauses 𝓤 H A at-mem run) .post (((κ, (κ₁, (κ₂, (κ₃, tt)))), (q, (q₁, (q₂, (q₃, tt)))), tt, a, vals), tt)
 
   -- what the step gives
-  abbrev after : Stepped
+  abbrev after : Turned
   after = next d (m .now) (c .now) (n .now)
 
   -- what the step is handed, and what is left for the writing
@@ -189,7 +189,7 @@ module _ {M : Type 1} (𝓤 : URA M) (H : Heap 𝓤) (A : Atoms 𝓤) (W : Given
       move ! (3 ∷ 0 ∷ []) $ fjoin ! $ nothing ! $ fjoin ! $ move ! (2 ∷ 0 ∷ []) $ fjoin ! $ move ! (1 ∷ 0 ∷ []) $ fjoin ! $
       owned ! u64 (Is u64) (uint-makes 𝓤 H A W w64) (r .answer) _ is $ move ! (1 ∷ 0 ∷ []) $ done !
 
-  module _ (C : Calls 𝓤 H) (Λ : Loops 𝓤 H) (fm : FmC 𝓤 H (W .laws) C) (known-step : Triple 𝓤 (C #card·lent·step) (Step 𝓤 H A at-mem run)) (known-write : Triple 𝓤 (C #aalbrett·buffer·write) (Write 𝓤 H A at-mem run)) where
+  module _ (C : Calls 𝓤 H) (Λ : Loops 𝓤 H) (fm : FmC 𝓤 H (W .laws) C) (known-step : Triple 𝓤 (C #card·probe·step) (Step 𝓤 H A at-mem run)) (known-write : Triple 𝓤 (C #aalbrett·buffer·write) (Write 𝓤 H A at-mem run)) where
     walk : Room u8 (length (m .now)) → Room u8 (length (c .now)) → Room u8 (length (n .now)) → ent 𝓤 (onEntry 𝓤 H A host.signature (κ, (κ₁, (κ₂, (κ₃, tt)))) (q, (q₁, (q₂, (q₃, tt)))) a vals) (WpFn 𝓤 H C Λ code.function (vptr b o ∷ part m ∷ part c ∷ part n ∷ []) Post)
     walk room room′ room″ =
         qed W ((‵ (flft κ q) ⊛ ‵ (flft κ₁ q₁) ⊛ ‵ (flft κ₂ q₂) ⊛ ‵ (flft κ₃ q₃) ⊛ ‵ ftrue) ∷ ‵ Owns ∷ []) ∵ enter ! C Λ code.function (vptr b o ∷ part m ∷ part c ∷ part n ∷ []) _ $
@@ -235,7 +235,7 @@ module _ {M : Type 1} (𝓤 : URA M) (H : Heap 𝓤) (A : Atoms 𝓤) (W : Given
         keep ! (5 ∷ 1 ∷ 8 ∷ 6 ∷ 2 ∷ []) $ by ! (exits-long r (answer-is r w is) (zs .0) (zs .1 .0) (us .0) e e₁ is-long l k))))))))))))))))))))))))))))
 
 module _ {M : Type 1} (𝓤 : URA M) (H : Heap 𝓤) (A : Atoms 𝓤) (W : Given 𝓤 H A) (mem : Memory → SProp 𝓤) (run : Routine → Fun 𝓤) where
-  step-walks : (C : Calls 𝓤 H) (Λ : Loops 𝓤 H) → FmC 𝓤 H (W .laws) C → Triple 𝓤 (C #card·lent·step) (Step 𝓤 H A mem run) → Triple 𝓤 (C #aalbrett·buffer·write) (Write 𝓤 H A mem run) → Walks 𝓤 H A host.ended stayed (WpFn 𝓤 H C Λ code.function) (host.clauses 𝓤 H A mem run)
+  step-walks : (C : Calls 𝓤 H) (Λ : Loops 𝓤 H) → FmC 𝓤 H (W .laws) C → Triple 𝓤 (C #card·probe·step) (Step 𝓤 H A mem run) → Triple 𝓤 (C #aalbrett·buffer·write) (Write 𝓤 H A mem run) → Walks 𝓤 H A host.ended stayed (WpFn 𝓤 H C Λ code.function) (host.clauses 𝓤 H A mem run)
   step-walks C Λ fm known-step known-write =
       walked 𝓤 H A host.ended stayed (host.clauses 𝓤 H A mem run) (WpFn 𝓤 H C Λ code.function)
       (λ κs. (ptr-vals, (slice-vals, (slice-vals, (slice-vals, tt)))))
@@ -244,7 +244,7 @@ module _ {M : Type 1} (𝓤 : URA M) (H : Heap 𝓤) (A : Atoms 𝓤) (W : Given
       (walk 𝓤 H A W mem run (κs .0) (κs .1 .0) (κs .1 .1 .0) (κs .1 .1 .1 .0) (qs .0) (qs .1 .0) (qs .1 .1 .0) (qs .1 .1 .1 .0) (a .0 .ptr .0) (a .0 .ptr .1) (a .0 .name) (a .0 .now) (a .1 .0) (a .1 .1 .0) (a .1 .1 .1 .0) C Λ fm known-step known-write
       (are .1 .0 .0 .1) (are .1 .1 .0 .0 .1) (are .1 .1 .1 .0 .0 .1)))
 
-step-meets : {M : Type 1} (𝓤 : URA M) (H : Heap 𝓤) (A : Atoms 𝓤) → Given 𝓤 H A → (mem : Memory → SProp 𝓤) (run : Routine → Fun 𝓤) (𝓣 : Tables 𝓤 H) → Triple 𝓤 (𝓣 .C #card·lent·step) (Step 𝓤 H A mem run) → Triple 𝓤 (𝓣 .C #aalbrett·buffer·write) (Write 𝓤 H A mem run)
+step-meets : {M : Type 1} (𝓤 : URA M) (H : Heap 𝓤) (A : Atoms 𝓤) → Given 𝓤 H A → (mem : Memory → SProp 𝓤) (run : Routine → Fun 𝓤) (𝓣 : Tables 𝓤 H) → Triple 𝓤 (𝓣 .C #card·probe·step) (Step 𝓤 H A mem run) → Triple 𝓤 (𝓣 .C #aalbrett·buffer·write) (Write 𝓤 H A mem run)
     → Meets 𝓤 H A host.signature (WpFn 𝓤 H (𝓣 .C) (𝓣 .Λ) code.function) (host.spec 𝓤 H A mem run)
 step-meets 𝓤 H A W mem run 𝓣 known-step known-write =
     walk-meets 𝓤 H A host.ended stayed W
@@ -257,5 +257,5 @@ aalbrett-step-spec 𝓤 H 𝓜 𝓖 𝓡 =
     entered 𝓤 H (tripleOf 𝓤 H (𝓖 .A) host.signature (host.spec 𝓤 H (𝓖 .A) (𝓜 .mem) (𝓡 .run)))
     (tables 𝓤 H 𝓜 𝓡 code.env .C) (tables 𝓤 H 𝓜 𝓡 code.env .Λ) #aalbrett·aalbrett-step code.function (code.unfolded 𝓤 H 𝓜 𝓡)
     (step-meets 𝓤 H (𝓖 .A) (givenOf 𝓤 H 𝓜 𝓖) (𝓜 .mem) (𝓡 .run) (tablesOf 𝓤 H 𝓜 (tables 𝓤 H 𝓜 𝓡 code.env))
-    (cited 𝓤 H (Step 𝓤 H (𝓖 .A) (𝓜 .mem) (𝓡 .run)) 𝓜 𝓡 code.env #card·lent·step step-def.routine code.calls-card·lent·step (step-thm.met 𝓤 H 𝓜 𝓖 𝓡))
+    (cited 𝓤 H (Step 𝓤 H (𝓖 .A) (𝓜 .mem) (𝓡 .run)) 𝓜 𝓡 code.env #card·probe·step step-def.routine code.calls-card·probe·step (step-thm.met 𝓤 H 𝓜 𝓖 𝓡))
     (cited 𝓤 H (Write 𝓤 H (𝓖 .A) (𝓜 .mem) (𝓡 .run)) 𝓜 𝓡 code.env #aalbrett·buffer·write writes-def.routine code.calls-aalbrett·buffer·write (writes-thm.met 𝓤 H 𝓜 𝓖 𝓡)))

@@ -1,9 +1,10 @@
 -- `timing_translations` meets its contract.
-use Prim.Native.Nat.{_-_, _≤_}
+use Prim.Native.Nat.{_+_, _-_, _≤_}
 use native.Mathlib.Omega.{arith}
 use mathlib.Core.Path.{_≡_, ap, _∙_}
 use mathlib.Core.Logic.{⊎-elim}
 use Rattle.cache.specs.declared.Cache.{Cache}
+use Rattle.cache.proofs.Laws.{drop-sixteen}
 use borrow.Author.Needs.{needs}
 use lib.ListN.{length, length-set}
 use Rattle.timing.proofs.timing_translations.Statement.{statement}
@@ -42,26 +43,59 @@ element-copy-out-set c = search needs
 probe-requires : tie.Need-probe-requires Inv-loop μ-loop
 probe-requires c κs = search needs
 
-enum-known-answer : tie.Need-enum-known-answer Inv-loop μ-loop
-enum-known-answer c = search needs
+enum-known-found : tie.Need-enum-known-found Inv-loop μ-loop
+enum-known-found c = search needs
 
 sum-requires : tie.Need-sum-requires Inv-loop μ-loop
 sum-requires c κs = search needs
 
-enum-known-a : tie.Need-enum-known-a Inv-loop μ-loop
-enum-known-a c = search needs
+enum-known-way : tie.Need-enum-known-way Inv-loop μ-loop
+enum-known-way c = search needs
 
-renew-requires : tie.Need-renew-requires Inv-loop μ-loop
-renew-requires c κs = search needs
+walk-requires : tie.Need-walk-requires Inv-loop μ-loop
+walk-requires c κs = search needs
 
-mul-changed : tie.Need-mul-changed Inv-loop μ-loop
-mul-changed c = search needs
-
-element-set-from-changed : tie.Need-element-set-from-changed Inv-loop μ-loop
-element-set-from-changed c = search needs
+answer-requires : tie.Need-answer-requires Inv-loop μ-loop
+answer-requires c κs = search needs
 
 sum-requires-2 : tie.Need-sum-requires-2 Inv-loop μ-loop
 sum-requires-2 c κs = search needs
+
+enum-known-walked : tie.Need-enum-known-walked Inv-loop μ-loop
+enum-known-walked c = search needs
+
+mul-own : tie.Need-mul-own Inv-loop μ-loop
+mul-own c = search needs
+
+element-copy-out-own : tie.Need-element-copy-out-own Inv-loop μ-loop
+element-copy-out-own c = search needs
+
+fill-requires : tie.Need-fill-requires Inv-loop μ-loop
+fill-requires c κs = search needs
+
+mul-filled : tie.Need-mul-filled Inv-loop μ-loop
+mul-filled c = search needs
+
+element-set-from-filled : tie.Need-element-set-from-filled Inv-loop μ-loop
+element-set-from-filled c = search needs
+
+enum-told : tie.Need-enum-told Inv-loop μ-loop
+enum-told c = search needs
+
+tag-requires-2 : tie.Need-tag-requires-2 Inv-loop μ-loop
+tag-requires-2 c κs = search needs
+
+drop-page-requires : tie.Need-drop-page-requires Inv-loop μ-loop
+drop-page-requires c κs = search needs
+
+enum-told-2 : tie.Need-enum-told-2 Inv-loop μ-loop
+enum-told-2 c = search needs
+
+tag-requires-3 : tie.Need-tag-requires-3 Inv-loop μ-loop
+tag-requires-3 c κs = search needs
+
+drop-page-requires-2 : tie.Need-drop-page-requires-2 Inv-loop μ-loop
+drop-page-requires-2 c κs = search needs
 
 add-n : tie.Need-add-n Inv-loop μ-loop
 add-n c = search needs
@@ -71,14 +105,29 @@ loop-less c = search needs
 
 loop-again : tie.Need-loop-again Inv-loop μ-loop
 loop-again c =
-    let i = c .before .before .before .before .before .before .before .loop .inv in
+    let p = c .before in
+    let i = p .before .before .before .before .before .before .loop .inv in
+    let next : c .before .before .before .before .before .before .before .loop .n + 1 ≤ c .before .before .before .before .before .before .before .before .before .before .before .args .turns = omega arith in
+    let sets = p .before .before .before .before .before .before .loop .cache .sets in
     ⊎-elim
-    (λ w. (ap length (w .4) ∙ i .0, ap (λ (x : Cache). length (x .sets)) (w .5) ∙ i .1, omega arith))
+    (λ w. (ap length (w .4) ∙ i .0, ap (λ (x : Cache). length (x .sets)) (w .5) ∙ i .1, next))
+    (⊎-elim
     (λ w. (
-      ap length (w .9) ∙ (w .5 .given ∙ i .0),
-      ap (λ (x : Cache). length (x .sets)) (w .10) ∙ length-set (c .before .before .before .before .before .before .before .loop .cache .sets) (c .before .before .before .set-of .result) (w .4 .result .set) ∙ i .1,
-      omega arith,
+      ap length (w .14) ∙ (w .5 .given ∙ i .0),
+      ap (λ (x : Cache). length (x .sets)) (w .15) ∙ length-set sets (c .before .before .before .set-of .result) (w .13 .result) ∙ i .1,
+      next,
     ))
+    (⊎-elim
+    (λ w. (
+      ap length (w .13) ∙ (w .5 .given ∙ i .0),
+      ap (λ (x : Cache). length (x .sets)) (w .14 ∙ w .12 .ensures) ∙ drop-sixteen (w .11 .result) (record { sets = sets }) (i .1),
+      next,
+    ))
+    (λ w. (
+      ap length (w .13) ∙ (w .5 .given ∙ i .0),
+      ap (λ (x : Cache). length (x .sets)) (w .14 ∙ w .12 .ensures) ∙ drop-sixteen (w .11 .result) (record { sets = sets }) (i .1),
+      next,
+    ))))
     (c .match .came)
 
 same-length : tie.Need-same-length Inv-loop μ-loop
@@ -102,13 +151,24 @@ timing-translations-spec =
     mul-set
     element-copy-out-set
     probe-requires
-    enum-known-answer
+    enum-known-found
     sum-requires
-    enum-known-a
-    renew-requires
-    mul-changed
-    element-set-from-changed
+    enum-known-way
+    walk-requires
+    answer-requires
     sum-requires-2
+    enum-known-walked
+    mul-own
+    element-copy-out-own
+    fill-requires
+    mul-filled
+    element-set-from-filled
+    enum-told
+    tag-requires-2
+    drop-page-requires
+    enum-told-2
+    tag-requires-3
+    drop-page-requires-2
     add-n
     loop-less
     loop-again

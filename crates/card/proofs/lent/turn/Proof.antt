@@ -46,7 +46,7 @@ use Rattle.walk.proofs.Numbers.Laws as N′
 use Rattle.machine.specs.declared.Machine.{Machine}
 use Rattle.machine.proofs.Machine as T
 use Rattle.machine.proofs.Machine.Laws as T′
-use Rattle.card.specs.Card.{Stepped, stepped}
+use Rattle.card.specs.Card.{Turned, stepped}
 use Rattle.card.specs.declared.Turn.{Turn}
 use Rattle.card.proofs.Lending.{lies-in, lies-out}
 use Rattle.card.proofs.Turn as S
@@ -89,7 +89,7 @@ module _ {M : Type 1} (𝓤 : URA M) (H : Heap 𝓤) (A : Atoms 𝓤) (W : Given
   Post = walkOf 𝓤 H A turn.ended stayed (turn.clauses 𝓤 H A at-mem run) .post (((κ, (κ′, tt)), (q, (q′, tt)), tt, a, vals), tt)
 
   -- what the step gives
-  abbrev after : Stepped
+  abbrev after : Turned
   after = stepped d (m .now) (c .now)
 
   -- what the step in place is handed: the machine at the place l, lent for ν under the name δ

@@ -1,36 +1,56 @@
 -- `value::step` meets its contract.
-use mathlib.Core.Path.{refl}
-use Rattle.card.specs.Card.{kind}
-use Rattle.card.proofs.Cards.{short, whole}
+use Rattle.card.proofs.Cards.{called}
+use Rattle.card.proofs.Cards as cards
 use borrow.Author.Needs.{needs}
 use Rattle.card.proofs.value.step.Statement.{statement}
 use Rattle.card.proofs.value.step.Tie as tie
 
+decode-requires : tie.Need-decode-requires
+decode-requires c κs = search needs
+
+enum-known-call : tie.Need-enum-known-call
+enum-known-call c = search needs
+
+step-requires : tie.Need-step-requires
+step-requires c κs = search needs
+
+in-numbers-requires : tie.Need-in-numbers-requires
+in-numbers-requires c κs = search needs
+
+enum-known-number : tie.Need-enum-known-number
+enum-known-number c = search needs
+
 refused-requires : tie.Need-refused-requires
 refused-requires c κs = search needs
-
-returns : tie.Need-returns
-returns c =
-    let a = c .before .before .before .before .args in
-    short (a .machine) (a .memory .now) (a .card .now) 0 (c .refused .result .numbers) (c .refused .result .machine) (a .memory .now) refl
-    (c .before .if1 .taken) (c .refused .ensures .0) (c .refused .ensures .1)
-
-shared-slice-read-kind : tie.Need-shared-slice-read-kind
-shared-slice-read-kind c = search needs
-
-call-requires : tie.Need-call-requires
-call-requires c κs = search needs
 
 same-length : tie.Need-same-length
 same-length c = search needs
 
+returns : tie.Need-returns
+returns c =
+    let s = c .before .before .before in
+    let d = s .before .before .before .before .before in
+    let a = d .before .before .before .args in
+    called (a .machine) (a .memory .now) (a .card .now) (d .decode .result) (d .decode .ensures) (s .before .before .before .call .given .0 .0) (s .before .before .before .call .given .1) (s .step .result) (s .step .last .1 .1 .0) (s .step .ensures)
+    (c .in-numbers .result .numbers) (c .in-numbers .ensures .0) (c .in-numbers .result .machine) (c .in-numbers .ensures .1)
+
 returns-2 : tie.Need-returns-2
 returns-2 c =
-    let a = c .before .before .before .before .before .before .before .before .args in
-    whole (a .machine) (a .memory .now) (a .card .now) (kind (a .card .now)) (c .before .before .call .result .numbers) (c .before .before .call .result .machine) (c .before .before .call .last .1 .0)
-    (c .before .before .before .before .before .if1 .left) refl (c .before .before .call .ensures .0, c .before .before .call .ensures .1, c .before .before .call .ensures .2)
+    let d = c .before .before .before .before in
+    let a = d .before .before .before .args in
+    cards.refused (a .machine) (a .memory .now) (a .card .now) (d .decode .result) (d .decode .ensures) (c .before .before .number .given .0 .0) (c .before .before .number .given .1)
+    (c .refused .result .numbers) (c .refused .ensures .0) (c .refused .result .machine) (c .refused .ensures .1)
 
 pub step-spec : {M : Type 1} → statement M
 step-spec =
     tie.close
-    (tie.spec refused-requires returns shared-slice-read-kind call-requires same-length returns-2)
+    (tie.spec
+    decode-requires
+    enum-known-call
+    step-requires
+    in-numbers-requires
+    enum-known-number
+    refused-requires
+    same-length
+    returns
+    returns-2)

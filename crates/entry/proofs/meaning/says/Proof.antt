@@ -1,7 +1,7 @@
 -- `meaning::says` meets its contract.
 use Prim.Native.Nat.{ℕ}
 use mathlib.Core.Path.{ap, _∙_}
-use Rattle.entry.specs.Says.{under}
+use Rattle.entry.specs.Masks.{under}
 use Rattle.entry.proofs.Masks.{under-says}
 use borrow.Author.Needs.{needs}
 use Rattle.entry.proofs.meaning.says.Statement.{statement}

@@ -1,5 +1,6 @@
 -- `read::look` meets its contract.
 use Prim.Native.Nat.{_+_, _*_}
+use native.Mathlib.Nat.{le-of-lt}
 use native.Mathlib.Omega.{arith}
 use mathlib.Core.Path.{_∙_}
 use borrow.Author.Tests.{lt-leb}
@@ -29,7 +30,7 @@ read-requires c κs = search needs
 returns-2 : tie.Need-returns-2
 returns-2 c =
     let a = c .before .before .before .before .args in
-    c .read .ensures ∙ loaded-part (a .base .0) (a .memory .now) (8 * a .index) (c .before .before .if1 .left)
+    c .read .ensures ∙ loaded-part (a .base .0) (a .memory .now) (8 * a .index) (le-of-lt (c .before .before .if1 .left))
 
 pub look-spec : {M : Type 1} → statement M
 look-spec =

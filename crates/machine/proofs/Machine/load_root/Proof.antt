@@ -1,6 +1,6 @@
 -- `Machine::load_root` meets its contract.
 use mathlib.Core.Path.{ap, _∙_}
-use Rattle.machine.specs.Calls.{loaded, withRoot}
+use Rattle.machine.specs.Calls.{loaded, rootLoaded, withRoot}
 use borrow.Author.Needs.{needs}
 use Rattle.machine.proofs.Machine.load_root.Statement.{statement}
 use Rattle.machine.proofs.Machine.load_root.Tie as tie
@@ -12,9 +12,10 @@ load-requires : tie.Need-load-requires
 load-requires c κs = search needs
 
 returns : tie.Need-returns
+unfolding rootLoaded
 returns c =
     let a = c .before .before .before .before .args in
-    (c .load .ensures .0, c .load .ensures .1 ∙ ap (loaded (a .self) (withRoot (a .self .settings) (a .value))) (c .before .load-root .ensures))
+    c .load .ensures ∙ ap (loaded (a .self) (withRoot (a .self .settings) (a .value))) (c .before .load-root .ensures)
 
 pub load-root-spec : {M : Type 1} → statement M
 load-root-spec = tie.close (tie.spec load-root-requires load-requires returns)

@@ -17,7 +17,7 @@ load-requires c κs = search needs
 returns : tie.Need-returns
 returns c =
     let s = c .before .before .before .args .settings in
-    (c .load .ensures .0, c .load .ensures .1 ∙ start-law s (c .before .initial .result) (c .before .initial .ensures) (c .before .before .empty .result) (c .before .before .empty .ensures))
+    c .load .ensures ∙ start-law s (c .before .initial .result) (c .before .initial .ensures) (c .before .before .empty .result) (c .before .before .empty .ensures)
 
 pub start-spec : {M : Type 1} → statement M
 start-spec = tie.close (tie.spec empty-requires initial-requires load-requires returns)

@@ -1,5 +1,5 @@
 -- `Machine::translate` meets its contract.
-use Rattle.machine.proofs.Setwise.{answered-law, walk-law}
+use Rattle.machine.proofs.Probing.{answered-law, walked-law, filled-cache}
 use borrow.Author.Needs.{needs}
 use Rattle.machine.proofs.Machine.translate.Statement.{statement}
 use Rattle.machine.proofs.Machine.translate.Tie as tie
@@ -22,33 +22,90 @@ probe-requires c κs = search needs
 enum-known-answer : tie.Need-enum-known-answer
 enum-known-answer c = search needs
 
-enum-known-a : tie.Need-enum-known-a
-enum-known-a c = search needs
+enum-known-way : tie.Need-enum-known-way
+enum-known-way c = search needs
 
-renew-requires : tie.Need-renew-requires
-renew-requires c κs = search needs
+walk-requires : tie.Need-walk-requires
+walk-requires c κs = search needs
 
-mul-changed : tie.Need-mul-changed
-mul-changed c = search needs
+answer-requires : tie.Need-answer-requires
+answer-requires c κs = search needs
 
-element-set-from-changed : tie.Need-element-set-from-changed
-element-set-from-changed c = search needs
+enum-known-walked : tie.Need-enum-known-walked
+enum-known-walked c = search needs
+
+fill-requires : tie.Need-fill-requires
+fill-requires c κs = search needs
+
+mul-filled : tie.Need-mul-filled
+mul-filled c = search needs
+
+element-set-from-filled : tie.Need-element-set-from-filled
+element-set-from-filled c = search needs
+
+enum-told : tie.Need-enum-told
+enum-told c = search needs
+
+tag-requires-2 : tie.Need-tag-requires-2
+tag-requires-2 c κs = search needs
+
+drop-page-requires : tie.Need-drop-page-requires
+drop-page-requires c κs = search needs
+
+enum-told-2 : tie.Need-enum-told-2
+enum-told-2 c = search needs
+
+tag-requires-3 : tie.Need-tag-requires-3
+tag-requires-3 c κs = search needs
+
+drop-page-requires-2 : tie.Need-drop-page-requires-2
+drop-page-requires-2 c κs = search needs
 
 returns : tie.Need-returns
 returns c =
-    let a = c .before .before .before .before .before .before .before .before .before .before .args in
-    answered-law (a .self) (a .memory .now) (a .address) (a .access) (a .mode) (c .before .before .before .before .before .before .tag .result) (c .before .before .before .before .before .before .tag .ensures) (c .before .before .before .before .before .set-of .result) (c .before .before .before .before .before .set-of .ensures)
-    (c .before .before .before .probe .result) (c .before .before .before .probe .ensures) (c .before .answer .given .0 .0) (c .before .answer .given .1)
+    let p = c .before .before .before in
+    let a = p .before .before .before .before .before .before .before .args in
+    answered-law (a .self) (a .memory .now) (a .address) (a .access) (a .mode) (p .before .before .before .tag .result) (p .before .before .before .tag .ensures) (p .before .before .set-of .result) (p .before .before .set-of .ensures) (p .probe .result) (p .probe .ensures)
+    (c .before .answer .given .0 .0) (c .before .answer .given .1)
 
 same-length : tie.Need-same-length
 same-length c = search needs
 
 returns-2 : tie.Need-returns-2
 returns-2 c =
-    let a = c .before .before .before .before .before .before .before .before .before .before .before .before .before .before .before .args in
-    walk-law (a .self) (a .memory .now) (a .address) (a .access) (a .mode) (c .before .before .before .before .before .before .before .before .before .before .before .tag .result) (c .before .before .before .before .before .before .before .before .before .before .before .tag .ensures) (c .before .before .before .before .before .before .before .before .before .before .set-of .result) (c .before .before .before .before .before .before .before .before .before .before .set-of .ensures)
-    (c .before .before .before .before .before .before .before .before .probe .result) (c .before .before .before .before .before .before .before .before .probe .ensures) (c .before .before .before .before .before .before .a .given .0 .0) (c .before .before .before .before .before .before .a .given .1) (c .before .before .before .renew .result .answer) (c .before .before .before .renew .ensures .0)
-    (c .before .before .before .renew .result .set) (c .before .before .before .renew .ensures .1) (c .before .before .before .renew .last .1 .1 .1 .1 .0) (c .before .before .before .renew .ensures .2)
+    let w = c .before .before .before .before .before .before .before in
+    let p = w .before .before .before .before .before in
+    let a = p .before .before .before .before .before .before .before .args in
+    walked-law (a .self) (a .memory .now) (a .address) (a .access) (a .mode) (p .before .before .before .tag .result) (p .before .before .before .tag .ensures) (p .before .before .set-of .result) (p .before .before .set-of .ensures) (p .probe .result) (p .probe .ensures)
+    (w .before .before .before .way .given .0 .0) (w .before .before .before .way .given .1) (w .walk .result) (w .walk .ensures .0) (c .before .before .before .before .answer2 .result) (c .before .before .before .before .answer2 .ensures)
+    _ (filled-cache (a .self .settings) (a .self .cache) (a .address) (w .before .before .before .way .given .0 .0) (p .before .before .before .tag .result) (p .before .before .before .tag .ensures) (p .before .before .set-of .result) (p .before .before .set-of .ensures) (w .walk .result) (c .before .before .walked .given .0 .0) (c .before .before .walked .given .1) (c .fill .result) (c .fill .ensures))
+    (w .walk .last .0) (w .walk .ensures .1)
+
+same-length-2 : tie.Need-same-length-2
+same-length-2 c = search needs
+
+returns-3 : tie.Need-returns-3
+returns-3 c =
+    let w = c .before .before .before .before .before .before .before in
+    let p = w .before .before .before .before .before in
+    let a = p .before .before .before .before .before .before .before .args in
+    walked-law (a .self) (a .memory .now) (a .address) (a .access) (a .mode) (p .before .before .before .tag .result) (p .before .before .before .tag .ensures) (p .before .before .set-of .result) (p .before .before .set-of .ensures) (p .probe .result) (p .probe .ensures)
+    (w .before .before .before .way .given .0 .0) (w .before .before .before .way .given .1) (w .walk .result) (w .walk .ensures .0) (c .before .before .before .before .answer2 .result) (c .before .before .before .before .answer2 .ensures)
+    (c .drop-page .result) (rw (c .drop-page .ensures, c .before .tag2 .ensures, c .before .before .enum-told .given .1))
+    (w .walk .last .0) (w .walk .ensures .1)
+
+same-length-3 : tie.Need-same-length-3
+same-length-3 c = search needs
+
+returns-4 : tie.Need-returns-4
+returns-4 c =
+    let w = c .before .before .before .before .before .before .before in
+    let p = w .before .before .before .before .before in
+    let a = p .before .before .before .before .before .before .before .args in
+    walked-law (a .self) (a .memory .now) (a .address) (a .access) (a .mode) (p .before .before .before .tag .result) (p .before .before .before .tag .ensures) (p .before .before .set-of .result) (p .before .before .set-of .ensures) (p .probe .result) (p .probe .ensures)
+    (w .before .before .before .way .given .0 .0) (w .before .before .before .way .given .1) (w .walk .result) (w .walk .ensures .0) (c .before .before .before .before .answer2 .result) (c .before .before .before .before .answer2 .ensures)
+    (c .drop-page2 .result) (rw (c .drop-page2 .ensures, c .before .tag3 .ensures, c .before .before .enum-told2 .given .1))
+    (w .walk .last .0) (w .walk .ensures .1)
 
 pub translate-spec : {M : Type 1} → statement M
 translate-spec =
@@ -60,10 +117,23 @@ translate-spec =
     element-copy-out-set
     probe-requires
     enum-known-answer
-    enum-known-a
-    renew-requires
-    mul-changed
-    element-set-from-changed
+    enum-known-way
+    walk-requires
+    answer-requires
+    enum-known-walked
+    fill-requires
+    mul-filled
+    element-set-from-filled
+    enum-told
+    tag-requires-2
+    drop-page-requires
+    enum-told-2
+    tag-requires-3
+    drop-page-requires-2
     returns
     same-length
-    returns-2)
+    returns-2
+    same-length-2
+    returns-3
+    same-length-3
+    returns-4)

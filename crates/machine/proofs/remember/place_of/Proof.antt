@@ -3,6 +3,9 @@ use borrow.Author.Needs.{needs}
 use Rattle.machine.proofs.remember.place_of.Statement.{statement}
 use Rattle.machine.proofs.remember.place_of.Tie as tie
 
+cast-offset : tie.Need-cast-offset
+cast-offset c = search needs
+
 offset-requires : tie.Need-offset-requires
 offset-requires c κs = search needs
 
@@ -21,12 +24,6 @@ pge-requires c κs = search needs
 bit-requires-2 : tie.Need-bit-requires-2
 bit-requires-2 c κs = search needs
 
-tag-requires : tie.Need-tag-requires
-tag-requires c κs = search needs
-
-cast-t13 : tie.Need-cast-t13
-cast-t13 c = search needs
-
 bit-requires-3 : tie.Need-bit-requires-3
 bit-requires-3 c κs = search needs
 
@@ -36,34 +33,60 @@ bit-requires-4 c κs = search needs
 bit-requires-5 : tie.Need-bit-requires-5
 bit-requires-5 c κs = search needs
 
+writes-requires : tie.Need-writes-requires
+writes-requires c κs = search needs
+
+flags-requires : tie.Need-flags-requires
+flags-requires c κs = search needs
+
+tag-requires : tie.Need-tag-requires
+tag-requires c κs = search needs
+
+flag-requires : tie.Need-flag-requires
+flag-requires c κs = search needs
+
+add-t20 : tie.Need-add-t20
+add-t20 c = search needs
+
+add-t21 : tie.Need-add-t21
+add-t21 c = search needs
+
 returns : tie.Need-returns
 returns c =
     rw (
-      c .before .before .before .before .tag .ensures,
-      c .before .before .before .before .before .before .before .before .frame .ensures,
-      c .before .before .before .before .before .before .before .before .before .plus .ensures,
-      c .before .before .before .before .before .before .before .before .before .before .offset .ensures,
-      c .before .before .before .bit3 .ensures,
-      c .before .before .bit4 .ensures,
-      c .before .bit5 .ensures,
-      c .before .before .before .before .before .bit2 .ensures,
-      c .before .before .before .before .before .before .before .bit .ensures,
-      c .before .before .before .before .before .before .pge .ensures,
+      c .before .tag .ensures,
+      c .before .before .before .before .before .before .before .before .before .before .frame .ensures,
+      c .before .before .before .before .before .before .before .before .before .before .before .plus .ensures,
+      c .before .before .before .before .before .before .before .before .before .before .before .before .offset .ensures,
+      c .flag .ensures .0,
+      c .before .before .flags .ensures .0,
+      c .before .before .before .before .before .before .bit3 .ensures,
+      c .before .before .before .before .before .bit4 .ensures,
+      c .before .before .before .before .bit5 .ensures,
+      c .before .before .before .before .before .before .before .bit2 .ensures,
+      c .before .before .before .writes .ensures,
+      c .before .before .before .before .before .before .before .before .before .bit .ensures,
+      c .before .before .before .before .before .before .before .before .pge .ensures,
     )
 
 pub place-of-spec : {M : Type 1} → statement M
 place-of-spec =
     tie.close
     (tie.spec
+    cast-offset
     offset-requires
     plus-requires
     frame-requires
     bit-requires
     pge-requires
     bit-requires-2
-    tag-requires
-    cast-t13
     bit-requires-3
     bit-requires-4
     bit-requires-5
+    writes-requires
+    flags-requires
+    tag-requires
+    flag-requires
+    add-t20
+    add-t21
     returns)

@@ -1,8 +1,8 @@
 -- `translate::probe` meets its contract.
 use mathlib.Core.Path.{ap, sym, _∙_}
 use Rattle.machine.specs.declared.Probed.the-variants.{Answered}
-use Rattle.machine.specs.Sets.{probed, probedAsked, probedFound}
-use Rattle.machine.proofs.Setwise.{find-law}
+use Rattle.machine.specs.Probe.{probed, probedAsked, probedFound}
+use Rattle.machine.proofs.Probing.{find-law}
 use borrow.Author.Needs.{needs}
 use Rattle.machine.proofs.translate.probe.Statement.{statement}
 use Rattle.machine.proofs.translate.probe.Tie as tie

@@ -2,7 +2,7 @@
 use native.Mathlib.Omega.{arith}
 use mathlib.Core.Path.{_≡_, sym, _∙_}
 use borrow.Author.Needs.{needs}
-use Rattle.entry.specs.Says.{under}
+use Rattle.entry.specs.Masks.{under}
 use Rattle.entry.proofs.Telling.{table-level, table-fits}
 use Rattle.walk.proofs.Laws.{ret-outside, ret-missing, ret-reserved, ret-page, ret-mapped, ret-refused, ret-below}
 use Prim.Native.Nat.{ℕ, suc, _+_, _-_, _^_, _≤_, _<_}

@@ -20,6 +20,9 @@ allow-requires c κs = search needs
 mark-requires : tie.Need-mark-requires
 mark-requires c κs = search needs
 
+cast-t17 : tie.Need-cast-t17
+cast-t17 c = search needs
+
 same-length : tie.Need-same-length
 same-length c = search needs
 
@@ -53,6 +56,7 @@ end-spec =
     sub-reads
     allow-requires
     mark-requires
+    cast-t17
     same-length
     returns
     allow-requires-2

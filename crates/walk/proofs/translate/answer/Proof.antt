@@ -6,6 +6,9 @@ use Rattle.walk.proofs.translate.answer.Tie as tie
 enum-known-walked : tie.Need-enum-known-walked
 enum-known-walked c = search needs
 
+cast-size : tie.Need-cast-size
+cast-size c = search needs
+
 offset-requires : tie.Need-offset-requires
 offset-requires c κs = search needs
 
@@ -25,7 +28,7 @@ enum-known-walked-3 : tie.Need-enum-known-walked-3
 enum-known-walked-3 c = search needs
 
 returns : tie.Need-returns
-returns c = rw (c .before .before .before .before .walked .given .1, c .plus .ensures, c .before .offset .ensures)
+returns c = rw (c .before .before .before .before .before .walked .given .1, c .plus .ensures, c .before .offset .ensures)
 
 returns-2 : tie.Need-returns-2
 returns-2 c = rw (c .before .before .before .walked2 .given .1, c .before .code .ensures, c .cause-level .ensures)
@@ -38,6 +41,7 @@ answer-spec =
     tie.close
     (tie.spec
     enum-known-walked
+    cast-size
     offset-requires
     plus-requires
     enum-known-walked-2

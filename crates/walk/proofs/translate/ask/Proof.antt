@@ -1,7 +1,7 @@
 -- `translate::ask` meets its contract.
 use mathlib.Core.Path.{sym, _∙_}
 use Rattle.settings.specs.Settings.{served, pg}
-use Rattle.walk.specs.Access.{known, accessOf}
+use Rattle.walk.specs.Access.{known, wayOf}
 use Rattle.walk.specs.Translate.{askedOn, askedOff}
 use Rattle.walk.proofs.Asking.{ask-unknown, ask-not-served, ask-on, ask-off, judged-served, judged-not, both-known, unknown-access, unknown-mode}
 use borrow.Author.Needs.{needs}
@@ -11,13 +11,13 @@ use Rattle.walk.proofs.translate.ask.Tie as tie
 returns : tie.Need-returns
 returns c =
     let a = c .before .args in
-    ask-unknown (known (a .access) (a .mode)) (served (a .settings)) (pg (a .settings)) (askedOn (a .address) (accessOf (a .access) (a .mode))) (askedOff (a .address))
+    ask-unknown (known (a .access) (a .mode)) (served (a .settings)) (pg (a .settings)) (askedOn (a .address) (wayOf (a .access) (a .mode))) (askedOff (a .address))
     (unknown-access (a .access) (a .mode) (c .if1 .taken))
 
 returns-2 : tie.Need-returns-2
 returns-2 c =
     let a = c .before .before .args in
-    ask-unknown (known (a .access) (a .mode)) (served (a .settings)) (pg (a .settings)) (askedOn (a .address) (accessOf (a .access) (a .mode))) (askedOff (a .address))
+    ask-unknown (known (a .access) (a .mode)) (served (a .settings)) (pg (a .settings)) (askedOn (a .address) (wayOf (a .access) (a .mode))) (askedOff (a .address))
     (unknown-mode (a .access) (a .mode) (c .before .if1 .left) (c .if2 .taken))
 
 judge-requires : tie.Need-judge-requires
@@ -41,21 +41,21 @@ ask-off-requires c κs = search needs
 returns-3 : tie.Need-returns-3
 returns-3 c =
     let a = c .before .before .before .before .before .args in
-    ask-not-served (known (a .access) (a .mode)) (served (a .settings)) (pg (a .settings)) (askedOn (a .address) (accessOf (a .access) (a .mode))) (askedOff (a .address))
+    ask-not-served (known (a .access) (a .mode)) (served (a .settings)) (pg (a .settings)) (askedOn (a .address) (wayOf (a .access) (a .mode))) (askedOff (a .address))
     (both-known (a .access) (a .mode) (c .before .before .before .before .if1 .left) (c .before .before .before .if2 .left)) (judged-not (a .settings) (sym (c .before .before .judge .ensures) ∙ c .enum-told .given .1))
 
 returns-4 : tie.Need-returns-4
 returns-4 c =
     c .ask-on .ensures ∙
     (let a = c .before .before .before .before .before .before .before .before .args in
-    ask-on (known (a .access) (a .mode)) (served (a .settings)) (pg (a .settings)) (askedOn (a .address) (accessOf (a .access) (a .mode))) (askedOff (a .address))
+    ask-on (known (a .access) (a .mode)) (served (a .settings)) (pg (a .settings)) (askedOn (a .address) (wayOf (a .access) (a .mode))) (askedOff (a .address))
     (both-known (a .access) (a .mode) (c .before .before .before .before .before .before .before .if1 .left) (c .before .before .before .before .before .before .if2 .left)) (judged-served (a .settings) (sym (c .before .before .before .before .before .judge .ensures) ∙ c .before .before .before .enum-told2 .given .1)) (sym (c .before .before .pg .ensures) ∙ c .before .if3 .taken))
 
 returns-5 : tie.Need-returns-5
 returns-5 c =
     c .ask-off .ensures ∙
     (let a = c .before .before .before .before .before .before .before .before .args in
-    ask-off (known (a .access) (a .mode)) (served (a .settings)) (pg (a .settings)) (askedOn (a .address) (accessOf (a .access) (a .mode))) (askedOff (a .address))
+    ask-off (known (a .access) (a .mode)) (served (a .settings)) (pg (a .settings)) (askedOn (a .address) (wayOf (a .access) (a .mode))) (askedOff (a .address))
     (both-known (a .access) (a .mode) (c .before .before .before .before .before .before .before .if1 .left) (c .before .before .before .before .before .before .if2 .left)) (judged-served (a .settings) (sym (c .before .before .before .before .before .judge .ensures) ∙ c .before .before .before .enum-told2 .given .1)) (sym (c .before .before .pg .ensures) ∙ c .before .if3 .left))
 
 pub ask-spec : {M : Type 1} → statement M

@@ -16,7 +16,7 @@ number-requires : tie.Need-number-requires
 number-requires c κs = search needs
 
 returns : tie.Need-returns
-returns c = c .number .ensures ∙ ap₂ (λ (w f : Bool). number w (c .before .before .before .args .access .user) f) (c .before .before .needs-write .ensures) (c .before .needs-fetch .ensures)
+returns c = c .number .ensures ∙ ap₂ (λ (w f : Bool). number w (c .before .before .before .args .way .user) f) (c .before .before .needs-write .ensures) (c .before .needs-fetch .ensures)
 
 pub needed-spec : {M : Type 1} → statement M
 needed-spec =

@@ -6,8 +6,11 @@ use Rattle.walk.proofs.walk.needs_write.Tie as tie
 wp-requires : tie.Need-wp-requires
 wp-requires c κs = search needs
 
+writes-requires : tie.Need-writes-requires
+writes-requires c κs = search needs
+
 returns : tie.Need-returns
-returns c = rw (c .before .before .wp .ensures)
+returns c = rw (c .before .before .wp .ensures, c .before .writes .ensures)
 
 pub needs-write-spec : {M : Type 1} → statement M
-needs-write-spec = tie.close (tie.spec wp-requires returns)
+needs-write-spec = tie.close (tie.spec wp-requires writes-requires returns)

@@ -1,0 +1,11 @@
+//! The exported calls and the machine's record, declared once for Rust; hosts/aalbrett.h says what they do.
+//!
+//! Nothing is linked here: a program that makes the calls links libaalbrett.a.
+
+mod calls;
+mod lent;
+mod record;
+
+pub use calls::{aalbrett_start, aalbrett_step, aalbrett_walk, timing_translations};
+pub use lent::{start, step, walk};
+pub use record::{Machine, Place, Settings};

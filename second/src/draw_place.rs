@@ -1,0 +1,104 @@
+//! Handmade places: good ones, ones that break a single rule, and rubbish.
+
+use crate::cache::{set_of, Place, Set};
+use crate::random::Random;
+
+/// A set of that number, whose places often have the tags of the pages.
+pub fn set(random: &mut Random, number: u64, pages: &[u64]) -> Set {
+    let tags = pages.iter().map(|page| page >> 12);
+    let own: Vec<u64> = tags.filter(|tag| set_of(*tag) == number).collect();
+    Set {
+        places: [(); 4].map(|()| place(random, number, &own)),
+    }
+}
+
+/// A place for the set of that number: zeros, rubbish, good, or good but for one rule.
+fn place(random: &mut Random, number: u64, own: &[u64]) -> Place {
+    match random.below(20) {
+        0 => Place::default(),
+        1 => rubbish(random),
+        2..=8 => broken(random, number, own),
+        _ => good(random, number, own),
+    }
+}
+
+/// A place that counts as filled in the set of that number.
+fn good(random: &mut Random, number: u64, own: &[u64]) -> Place {
+    let word = random.word();
+    Place {
+        marked: flag(random, 100),
+        tag: tag(random, number, own),
+        frame: match random.below(6) {
+            0 => (1 << 40) - 1,
+            1..=3 => random.below(16),
+            _ => word >> 24,
+        },
+        size: random.between(1, 3) as u8,
+        write: flag(random, 75),
+        user: flag(random, 75),
+        fetch: flag(random, 70),
+        dirty: flag(random, 70),
+        global: flag(random, 45),
+        spare: random.below(4) as u8,
+    }
+}
+
+/// A tag below 2^52 of the set of that number, mostly one of its pages' or near it.
+fn tag(random: &mut Random, number: u64, own: &[u64]) -> u64 {
+    let any = random.word() >> 12 & !0xF | number;
+    if own.is_empty() || random.chance(10) {
+        return random.pick(&[any, any, number, (1 << 52) - 16 + number]);
+    }
+    let page = random.pick(own);
+    match random.below(10) {
+        0 => page ^ 16 << random.below(48),
+        1 => page ^ 16,
+        2 => (1 << 52) - 16 + number,
+        _ => page,
+    }
+}
+
+/// A good place with one rule broken.
+fn broken(random: &mut Random, number: u64, own: &[u64]) -> Place {
+    let mut place = good(random, number, own);
+    let word = random.word();
+    match random.below(5) {
+        0 => place.marked = 0,
+        1 => {
+            let page = place.tag | 1 << random.between(52, 63);
+            place.tag = random.pick(&[page, page, 1 << 52 | number, word | 1 << 52]);
+            place.tag = place.tag & !0xF | number;
+        }
+        2 => place.tag ^= random.between(1, 15),
+        3 => {
+            let over = place.frame | 1 << random.between(40, 63);
+            place.frame = random.pick(&[1 << 40, (1 << 40) + 1, over, over, u64::MAX]);
+        }
+        _ => {
+            let any = random.between(4, 255) as u8;
+            place.size = random.pick(&[0, 0, 4, 4, 5, 0x81, 255, any]);
+        }
+    }
+    place
+}
+
+/// A place of any bytes.
+fn rubbish(random: &mut Random) -> Place {
+    Place {
+        marked: flag(random, 80),
+        tag: random.word(),
+        frame: random.word(),
+        size: random.word() as u8,
+        write: flag(random, 50),
+        user: flag(random, 50),
+        fetch: flag(random, 50),
+        dirty: flag(random, 50),
+        global: flag(random, 50),
+        spare: random.below(4) as u8,
+    }
+}
+
+/// A flag that is set in so many of a hundred draws.
+fn flag(random: &mut Random, percent: u64) -> u8 {
+    random.chance(percent).into()
+}

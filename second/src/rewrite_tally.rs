@@ -1,0 +1,99 @@
+//! What the rewrite of a set met: rules that its places broke, gaps, and places at a rule's border.
+
+use crate::cache::{Place, Set};
+
+/// The rules of a filled place.
+const RULES: [&str; 5] = ["mark", "tag", "set", "frame", "size"];
+/// The calls that rewrite a set.
+const REWRITES: [&str; 5] = [
+    "fill",
+    "page drop",
+    "fault's drop",
+    "outside's drop",
+    "root load",
+];
+/// Places at the border of a rule.
+const BORDERS: [&str; 9] = [
+    "frame 2^40 - 1 kept",
+    "frame 2^40 zeroed",
+    "last tag of its set kept",
+    "tag 2^52 zeroed",
+    "size 0 zeroed",
+    "size 1 kept",
+    "size 2 kept",
+    "size 3 kept",
+    "size 4 zeroed",
+];
+
+/// Every row of a rewrite.
+pub fn expected() -> Vec<String> {
+    let mut rows: Vec<String> = BORDERS.map(String::from).into();
+    for rewrite in REWRITES {
+        rows.extend(RULES.map(|rule| format!("{rewrite} zeroes a place not filled: {rule}")));
+        rows.push(format!("{rewrite} closes a gap"));
+    }
+    rows
+}
+
+/// The rule that a place breaks in the set of that number, if it is exactly one.
+pub fn broken_rule(place: &Place, number: u64) -> Option<&'static str> {
+    let broken = [
+        place.marked == 0,
+        place.tag >= 1 << 52,
+        place.tag % 16 != number,
+        place.frame >= 1 << 40,
+        !matches!(place.size, 1..=3),
+    ];
+    let mut rules = RULES.iter().zip(broken).filter(|(_, broken)| *broken);
+    let (rule, _) = rules.next()?;
+    rules.next().is_none().then_some(rule)
+}
+
+/// Whether a set holds something in a place that is not filled.
+pub fn rubbish(set: &Set, number: u64) -> bool {
+    let mut places = set.places.iter();
+    places.any(|place| *place != Place::default() && !place.filled(number))
+}
+
+/// Adds the rows of a set's rewrite by a call that would spare these places.
+pub fn rewrite_rows(
+    rewrite: &str,
+    number: u64,
+    set: &Set,
+    spares: impl Fn(&Place) -> bool,
+    rows: &mut Vec<String>,
+) {
+    for place in set.places.iter().filter(|place| spares(place)) {
+        if let Some(rule) = broken_rule(place, number) {
+            rows.push(format!("{rewrite} zeroes a place not filled: {rule}"));
+        }
+        border_rows(place, number, rows);
+    }
+    let stays = set
+        .places
+        .map(|place| place.filled(number) && spares(&place));
+    let gap = stays.windows(2).any(|pair| pair == [false, true]);
+    rows.extend(gap.then(|| format!("{rewrite} closes a gap")));
+    let kept = set.places.iter().zip(stays).filter(|(_, stays)| *stays);
+    let spare = kept.filter(|(place, _)| place.spare != 0).count() > 0;
+    rows.extend(spare.then(|| "spare bits kept".into()));
+}
+
+/// Adds the borders at which a place lies that is kept, or zeroed for that alone.
+fn border_rows(place: &Place, number: u64, rows: &mut Vec<String>) {
+    let mut add = |found: bool, row: &str| rows.extend(found.then(|| row.to_string()));
+    match broken_rule(place, number) {
+        Some("frame") => add(place.frame == 1 << 40, "frame 2^40 zeroed"),
+        Some("tag") => add(place.tag == 1 << 52 | number, "tag 2^52 zeroed"),
+        Some("size") => {
+            add(place.size == 0, "size 0 zeroed");
+            add(place.size == 4, "size 4 zeroed");
+        }
+        None if place.filled(number) => {
+            add(place.frame == (1 << 40) - 1, "frame 2^40 - 1 kept");
+            add(place.tag >> 4 == (1 << 48) - 1, "last tag of its set kept");
+            add(true, &format!("size {} kept", place.size));
+        }
+        _ => {}
+    }
+}
