@@ -40,7 +40,7 @@ extern "C" {
  *                                                                             translation was asked
  *   UNKNOWN     access, mode or card kind      0                              0
  *               unknown
- *   NOT_SERVED  settings not served            0                              0
+ *   WIDTH       M not from 32 to 52            0                              0
  *   FORM        address not canonical; with    0                              0
  *               paging off, not below 2^32
  *   OUTSIDE     a table entry, or a card's     the entry's physical address,  level of the table, 4 to 1; 0 for
@@ -49,9 +49,16 @@ extern "C" {
  *   FAULT       page fault                     the error code                 level of the entry at fault, 4 to 1
  *   CARD_SHORT  a card of other than 32 bytes  0                              0
  *   SHORT       answer buffer below 32 bytes   nothing is written
+ *   ROOT        CR3 not below 2^M              0                              0
+ *   PAGING      CR0.PG = 1 without CR0.PE,     0                              0
+ *               CR4.PAE or EFER.LME
+ *   EXTENSION   CR0.PG = 1 and a bit of CR4    0                              0
+ *               that is not served: 12, 17
+ *               or 20 to 24
  *
- * They are tested in the order SHORT, CARD_SHORT, UNKNOWN, NOT_SERVED, FORM, and then OUTSIDE and
- * FAULT as the walk meets them.
+ * They are tested in the order SHORT, CARD_SHORT, UNKNOWN, then the settings in the order WIDTH, ROOT,
+ * PAGING, EXTENSION, then FORM, and OUTSIDE and FAULT as the walk meets them. The first that applies is
+ * answered. Settings are served where none of their four applies.
  *
  * A physical address may lie outside the memory lent, since table entries and remembered places may
  * name any. So a host tests that the bytes it wants are inside before it uses them.
@@ -61,12 +68,15 @@ extern "C" {
  */
 #define AALBRETT_DONE 0
 #define AALBRETT_UNKNOWN 1
-#define AALBRETT_NOT_SERVED 2
+#define AALBRETT_WIDTH 2
 #define AALBRETT_FORM 3
 #define AALBRETT_OUTSIDE 4
 #define AALBRETT_FAULT 5
 #define AALBRETT_CARD_SHORT 6
 #define AALBRETT_SHORT 7
+#define AALBRETT_ROOT 8
+#define AALBRETT_PAGING 9
+#define AALBRETT_EXTENSION 10
 
 /*
  * The first 32 bytes of an answer buffer: four little-endian 64-bit numbers. On x86-64 they can be
@@ -92,8 +102,9 @@ struct aalbrett_answer {
  *   cr0, cr3, cr4, efer   the registers. Used are CR0.PE, WP and PG, CR4.PAE, EFER.LME and NXE, and
  *                         the root table's address in CR3, whose low 12 bits do not count.
  *   width                 the physical width M in bits.
- *                         Served: M from 32 to 52 and CR3 below 2^M; and with PG = 1, PE = PAE = LME = 1
- *                         and CR4 bits 12, 17 and 20 to 24 clear.
+ *                         Served: M from 32 to 52, else WIDTH; CR3 below 2^M, else ROOT; and with PG = 1
+ *                         PE = PAE = LME = 1, else PAGING, and CR4 bits 12, 17 and 20 to 24 clear, else
+ *                         EXTENSION.
  *   address               the virtual address.
  *   access, mode          AALBRETT_READ, WRITE or FETCH; AALBRETT_SUPERVISOR or USER.
  *   memory                guest memory: memory_length bytes that the call may read and write. Physical
@@ -167,8 +178,8 @@ struct aalbrett_machine {
 /*
  * Starts a machine: its settings become these, and it remembers nothing.
  *
- * Returns DONE, or NOT_SERVED where the settings are not served (see aalbrett_walk); the machine then
- * has all registers 0 and M = 40. Nothing of what the record held before counts.
+ * Returns DONE, or WIDTH, ROOT, PAGING or EXTENSION where the settings are not served (see aalbrett_walk);
+ * the machine then has all registers 0 and M = 40. Nothing of what the record held before counts.
  */
 uint64_t aalbrett_start(
     struct aalbrett_machine *machine,
@@ -216,8 +227,9 @@ struct aalbrett_card {
  * aalbrett_walk does; a success is remembered, and OUTSIDE or FAULT drops the page.
  *
  * memory is changed by a translation that walks and is answered DONE, as in aalbrett_walk, and by a
- * store that is answered DONE. SHORT, CARD_SHORT, UNKNOWN, NOT_SERVED and FORM change nothing of
- * machine or memory, and a store's OUTSIDE neither.
+ * store that is answered DONE. SHORT, CARD_SHORT, UNKNOWN, WIDTH, ROOT, PAGING, EXTENSION and FORM
+ * change nothing of machine or memory, and a store's OUTSIDE neither. A root or settings load is judged
+ * by the settings that it would leave.
  *
  * No two of the four may overlap, and nothing else may use them during the call; the card may be read.
  * No pointer may be null, also where its length is 0.

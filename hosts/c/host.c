@@ -45,6 +45,9 @@ struct exercise {
 #define NARROWEST {" (M = 32)", 0x80010001, ROOT, 0x20, 0x900, 32}
 #define WIDEST {" (M = 52)", 0x80010001, ROOT, 0x20, 0x900, 52}
 #define TOO_WIDE {" (M = 53)", 0x80010001, ROOT, 0x20, 0x900, 53}
+#define LARGE_ROOT {" (CR3 = 2^M)", 0x80010001, 0x10000000000, 0x20, 0x900, 40}
+#define UNPREPARED {" (PE = 0)", 0x80010000, ROOT, 0x20, 0x900, 40}
+#define EXTENDED {" (CR4 bit 20)", 0x80010001, ROOT, 0x100020, 0x900, 40}
 #define NO_PAGING {" (PG = 0)", 0, 0, 0, 0, 40}
 
 #define READ AALBRETT_READ
@@ -79,10 +82,13 @@ static const struct exercise exercises[] = {
     {PAGING, {0xc0000000, READ, USER}, {AALBRETT_OUTSIDE, 0x9000, 2, 2}, {0}},
     {PAGING, {0x0000800000000000, READ, USER}, {AALBRETT_FORM, 0, 0, 0}, {0}},
     {PAGING, {0xffff800000000000, READ, SUPERVISOR}, {AALBRETT_FAULT, 0, 4, 1}, {0}},
-    {TOO_NARROW, {0x403abc, READ, USER}, {AALBRETT_NOT_SERVED, 0, 0, 0}, {0}},
+    {TOO_NARROW, {0x403abc, READ, USER}, {AALBRETT_WIDTH, 0, 0, 0}, {0}},
     {NARROWEST, {0x403abc, READ, USER}, {AALBRETT_DONE, 0x5abc, 1, 4}, {0x1000, 0x2000, 0x3010, 0x4018}},
     {WIDEST, {0x403abc, READ, USER}, {AALBRETT_DONE, 0x5abc, 1, 4}, {0x1000, 0x2000, 0x3010, 0x4018}},
-    {TOO_WIDE, {0x403abc, READ, USER}, {AALBRETT_NOT_SERVED, 0, 0, 0}, {0}},
+    {TOO_WIDE, {0x403abc, READ, USER}, {AALBRETT_WIDTH, 0, 0, 0}, {0}},
+    {LARGE_ROOT, {0x403abc, READ, USER}, {AALBRETT_ROOT, 0, 0, 0}, {0}},
+    {UNPREPARED, {0x403abc, READ, USER}, {AALBRETT_PAGING, 0, 0, 0}, {0}},
+    {EXTENDED, {0x403abc, READ, USER}, {AALBRETT_EXTENSION, 0, 0, 0}, {0}},
     {PAGING, {0x403abc, 3, USER}, {AALBRETT_UNKNOWN, 0, 0, 0}, {0}},
     {NO_PAGING, {0x403abc, READ, USER}, {AALBRETT_DONE, 0x403abc, 0, 0}, {0}},
     {NO_PAGING, {0x100000000, READ, USER}, {AALBRETT_FORM, 0, 0, 0}, {0}},
@@ -130,8 +136,17 @@ static void print_answer(struct aalbrett_answer a) {
     case AALBRETT_UNKNOWN:
         printf("access or mode unknown");
         break;
-    case AALBRETT_NOT_SERVED:
-        printf("settings not served");
+    case AALBRETT_WIDTH:
+        printf("width not served");
+        break;
+    case AALBRETT_ROOT:
+        printf("root too large for the width");
+        break;
+    case AALBRETT_PAGING:
+        printf("paging on without PE, PAE or LME");
+        break;
+    case AALBRETT_EXTENSION:
+        printf("extension bit not served");
         break;
     case AALBRETT_FORM:
         printf("address form");

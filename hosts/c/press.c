@@ -101,8 +101,11 @@ static bool refusals(void) {
     struct aalbrett_machine other = {0};
     struct aalbrett_answer answer = {9, 9, 9, 9};
     uint8_t card[32] = {AALBRETT_CARD_ALL};
-    bool right = aalbrett_start(&other, 0, 0x1000, 0, 0, 31) == AALBRETT_NOT_SERVED && other.settings.cr3 == 0
+    bool right = aalbrett_start(&other, 0, 0x1000, 0, 0, 31) == AALBRETT_WIDTH && other.settings.cr3 == 0
         && other.settings.width == 40;
+    right &= aalbrett_start(&other, 0, 0x10000000000, 0, 0, 40) == AALBRETT_ROOT;
+    right &= aalbrett_start(&other, 0x80000001, 0x1000, 0x20, 0, 40) == AALBRETT_PAGING;
+    right &= aalbrett_start(&other, 0x80000001, 0x1000, 0x1020, 0x100, 40) == AALBRETT_EXTENSION && other.settings.cr3 == 0;
     right &= aalbrett_step(&other, memory, sizeof memory, card, 32, (uint8_t *)&answer, 31) == AALBRETT_SHORT && answer.answer == 9;
     right &= aalbrett_step(&other, memory, sizeof memory, card, 31, (uint8_t *)&answer, 32) == AALBRETT_CARD_SHORT
         && answer.answer == AALBRETT_CARD_SHORT;

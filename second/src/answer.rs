@@ -12,12 +12,15 @@ pub struct Answer {
 impl Answer {
     pub const DONE: u64 = 0;
     pub const UNKNOWN: u64 = 1;
-    pub const NOT_SERVED: u64 = 2;
+    pub const WIDTH: u64 = 2;
     pub const FORM: u64 = 3;
     pub const OUTSIDE: u64 = 4;
     pub const FAULT: u64 = 5;
     pub const SHORT_CARD: u64 = 6;
     pub const SHORT_BUFFER: u64 = 7;
+    pub const ROOT: u64 = 8;
+    pub const PAGING: u64 = 9;
+    pub const EXTENSION: u64 = 10;
 
     /// The answer of that number with value, detail and entries read 0.
     pub fn bare(answer: u64) -> Answer {

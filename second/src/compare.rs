@@ -5,6 +5,7 @@ use crate::case::Case;
 use crate::draw::{draw, FRESH};
 use crate::host::{call, HostWalk, Question};
 use crate::random::Random;
+use crate::tally::{rows, Tally};
 
 /// So many bytes on both sides of a lent run must stay as they are.
 const GUARD: usize = 64;
@@ -55,9 +56,11 @@ struct Outcome {
     buffer: Run,
 }
 
-/// Compares so many walks and panics at the first difference.
-pub fn walks(seed: u64, count: u64, host: HostWalk) {
+/// Compares so many walks and panics at the first difference; gives the rules met.
+pub fn walks(seed: u64, count: u64, host: HostWalk) -> Tally {
     let mut random = Random::new(seed);
+    let mut tally = Tally::of_walks();
+    tally.expect([31, 32, 33].map(buffer_row));
     let mut content = Vec::new();
     for number in 1..=count {
         let case = draw(&mut random, FRESH);
@@ -70,24 +73,38 @@ pub fn walks(seed: u64, count: u64, host: HostWalk) {
             buffer: Run::new(&mut random, &before),
         };
         let mut theirs = ours.clone();
-        expected(&case, &mut ours);
+        let answer = expected(&case, &mut ours);
         hosted(&case, host, &mut theirs);
         assert!(
             ours == theirs,
             "seed {seed:#x} walk {number} buffer of {length} bytes\n{case:x?}\n{}",
             difference(&ours, &theirs)
         );
+        tally.count(&[buffer_row(length)]);
+        if let Some(answer) = answer {
+            tally.count(&rows(&case, &content, &answer));
+        }
+    }
+    tally
+}
+
+/// The row of an answer buffer's length.
+fn buffer_row(length: usize) -> String {
+    match length {
+        0..=30 => "answer buffer below 31 bytes".into(),
+        31 | 32 => format!("answer buffer of {length} bytes"),
+        _ => "answer buffer above 32 bytes".into(),
     }
 }
 
-/// Makes the outcome into what the paper gives.
-fn expected(case: &Case, outcome: &mut Outcome) {
+/// Makes the outcome into what the paper gives; the answer where the buffer is not short.
+fn expected(case: &Case, outcome: &mut Outcome) -> Option<Answer> {
     outcome.returned = Answer::SHORT_BUFFER;
-    if let Some(first) = outcome.buffer.lent().get_mut(..32) {
-        let answer = case.translate(outcome.memory.lent());
-        first.copy_from_slice(&answer.bytes());
-        outcome.returned = answer.answer;
-    }
+    let first = outcome.buffer.lent().get_mut(..32)?;
+    let answer = case.translate(outcome.memory.lent());
+    first.copy_from_slice(&answer.bytes());
+    outcome.returned = answer.answer;
+    Some(answer)
 }
 
 /// Makes the outcome into what the host's walk gives.

@@ -4,9 +4,11 @@ use crate::answer::Answer;
 use crate::card::{step, CARD};
 use crate::deal::deal_damaged;
 use crate::deck::{deck, MEMORY};
+use crate::deck_tally;
 use crate::machine::Machine;
 use crate::random::Random;
 use crate::settings::Settings;
+use crate::tally::Tally;
 
 /// The most cards of a compared deck.
 const CARDS: usize = 60;
@@ -15,9 +17,10 @@ const MEMORIES: [usize; 6] = [MEMORY, MEMORY, MEMORY, 40000, 0x4220, 0x501B];
 /// Lengths of the answer buffer: exact, long and short ones.
 const BUFFERS: [usize; 10] = [32, 32, 32, 32, 32, 32, 40, 64, 31, 0];
 
-/// Compares the lines of so many decks and panics at the first difference.
-pub fn decks(seed: u64, count: u64, mut program: impl FnMut(&[u8]) -> String) {
+/// Compares the lines of so many decks and panics at the first difference; gives the events met.
+pub fn decks(seed: u64, count: u64, mut program: impl FnMut(&[u8]) -> String) -> Tally {
     let mut random = Random::new(seed);
+    let mut tally = deck_tally::tally();
     for number in 1..=count {
         let input = deal_damaged(&mut random, CARDS);
         let (ours, theirs) = (deck(&input), program(&input));
@@ -32,7 +35,9 @@ pub fn decks(seed: u64, count: u64, mut program: impl FnMut(&[u8]) -> String) {
                 theirs.lines().nth(same),
             );
         }
+        deck_tally::count(&input, &mut tally);
     }
+    tally
 }
 
 /// Compares so many decks step by step: number, answer buffer and memory after each card.

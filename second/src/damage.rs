@@ -1,6 +1,7 @@
 //! Damage to a case: each kind leads to a refusal of its own, or to a border of one.
 
 use crate::case::Case;
+use crate::draw_settings::unserved;
 use crate::random::Random;
 use crate::settings::Settings;
 use crate::translate::WRITE;
@@ -8,22 +9,6 @@ use crate::walk::{FRAME, LARGE, PRESENT, USER, WRITABLE};
 
 /// Numbers beyond the known accesses and modes.
 const UNKNOWN: [u64; 8] = [3, 4, 255, 256, 1 << 32, 1 << 32 | 1, 1 << 63, u64::MAX];
-/// Widths beyond both ends.
-const WIDTHS: [u64; 12] = [
-    30,
-    31,
-    53,
-    54,
-    0,
-    63,
-    64,
-    255,
-    256 + 40,
-    1 << 32 | 40,
-    1 << 63 | 40,
-    u64::MAX,
-];
-
 /// Damages the case in one way.
 pub fn damage(random: &mut Random, case: &mut Case) {
     match random.below(34) {
@@ -155,20 +140,6 @@ fn cut_memory(random: &mut Random, case: &mut Case) {
     if let Some(pair) = case.stores.get(number) {
         let end = pair.0.saturating_add(random.below(10));
         case.length = case.length.min(end as usize);
-    }
-}
-
-/// Breaks one of the rules of served settings.
-pub fn unserved(random: &mut Random, settings: &mut Settings) {
-    match random.below(12) {
-        0..=2 => settings.width = random.pick(&WIDTHS),
-        3 => settings.cr3 |= 1 << random.between(settings.width.min(63), 63),
-        4 => settings.cr3 = 1 << settings.width.min(63),
-        5 => settings.cr3 = (1 << settings.width.min(63)) - 1,
-        6 => settings.cr0 &= !Settings::PE,
-        7 => settings.cr4 &= !Settings::PAE,
-        8 => settings.efer &= !Settings::LME,
-        _ => settings.cr4 |= 1 << random.pick(&[12, 17, 20, 21, 22, 23, 24]),
     }
 }
 

@@ -65,7 +65,7 @@ fn put(random: &mut Random, deck: &mut Vec<u8>, card: Card) {
 
 /// Adds any play of one or more cards: translations first of all, of few pages.
 fn play(random: &mut Random, deck: &mut Vec<u8>, pages: &[u64]) {
-    let card = match random.below(100) {
+    let card = match random.below(106) {
         0..=29 => translation(random, pages),
         30..=39 => return repeat(random, deck, pages),
         40..=44 => return sweep(random, deck),
@@ -77,8 +77,9 @@ fn play(random: &mut Random, deck: &mut Vec<u8>, pages: &[u64]) {
         82..=91 => load_root(random),
         92 => return outside_root(random, deck, pages),
         93..=94 => settings(random, 60),
-        95..=96 => refused_settings(random),
-        97 => return unpaged(random, deck, pages),
+        95..=100 => refused_settings(random),
+        101..=102 => return narrowed(random, deck),
+        103 => return unpaged(random, deck, pages),
         _ => Card::Unknown {
             kind: random.pick(&[6, 7, 128, 255]),
         },
@@ -171,6 +172,19 @@ fn unpaged(random: &mut Random, deck: &mut Vec<u8>, pages: &[u64]) {
         let on = settings(random, 60);
         put(random, deck, on);
     }
+}
+
+/// Loads a large root, then settings that are often too narrow for it, and a good root again.
+fn narrowed(random: &mut Random, deck: &mut Vec<u8>) {
+    let value = 1 << random.pick(&[32, 36, 39]);
+    put(random, deck, Card::LoadRoot { value });
+    let card = if random.chance(50) {
+        settings(random, 60)
+    } else {
+        refused_settings(random)
+    };
+    put(random, deck, card);
+    put(random, deck, Card::LoadRoot { value: 0x1000 });
 }
 
 /// Loads a root outside memory, asks for pages and loads a good root again.

@@ -10,7 +10,7 @@ use crate::tally::Tally;
 use crate::translate::{canonical, translate, FETCH, WRITE};
 
 /// Rows that a good deal of decks brings up.
-const EVENTS: [&str; 28] = [
+const EVENTS: [&str; 31] = [
     "kind 0 answer 0",
     "kind 0 answer 1",
     "kind 0 answer 3",
@@ -19,11 +19,14 @@ const EVENTS: [&str; 28] = [
     "kind 1 answer 0",
     "kind 1 answer 4",
     "kind 2 answer 0",
-    "kind 2 answer 2",
+    "kind 2 answer 8",
     "kind 3 answer 0",
     "kind 4 answer 0",
     "kind 5 answer 0",
     "kind 5 answer 2",
+    "kind 5 answer 8",
+    "kind 5 answer 9",
+    "kind 5 answer 10",
     "unknown kind",
     "paging off",
     "hit of size 1",

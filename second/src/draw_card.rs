@@ -1,6 +1,7 @@
 //! Single random cards, on few tables and pages.
 
 use crate::card::Card;
+use crate::draw_settings::unserved;
 use crate::random::Random;
 use crate::settings::Settings;
 
@@ -145,11 +146,13 @@ pub fn drop_page(random: &mut Random, pages: &[u64]) -> Card {
     }
 }
 
-/// A load of one of the two roots, now and then of one too large.
+/// A load of one of the two roots, now and then of one too large or at the border of a width.
 pub fn load_root(random: &mut Random) -> Card {
     let refused = 1 << random.between(32, 63);
+    let border = 1 << random.pick(&[32, 36, 39, 40, 52]);
     let value = match random.below(20) {
-        0..=1 => refused,
+        0 => refused,
+        1 => random.pick(&[border, border - 1]),
         2 => u64::MAX,
         3..=4 => 0x1FFF,
         5..=12 => 0x6000,
@@ -160,26 +163,14 @@ pub fn load_root(random: &mut Random) -> Card {
 
 /// Served settings with paging on; PGE in so many of a hundred draws.
 pub fn settings(random: &mut Random, global: u64) -> Card {
-    let cr0 = Settings::PE | Settings::PG | random.flag(Settings::WP, 60);
-    let cr4 = Settings::PAE | random.flag(Settings::PGE, global);
-    Card::LoadSettings {
-        cr0: cr0 as u32,
-        cr4: cr4 as u32,
-        efer: Settings::LME | random.flag(Settings::NXE, 75),
-        width: random.pick(&[40, 40, 40, 40, 36, 39, 52, 32]),
-    }
+    loaded(&paging_on(random, global))
 }
 
-/// Settings that break one of the rules.
+/// Settings that break one of the rules or two of them.
 pub fn refused_settings(random: &mut Random) -> Card {
-    let cr0 = random.pick(&[0x8001_0001, 0x8001_0001, 0x8001_0000]);
-    let left_out = 0x20 | 1 << random.pick(&[12, 17, 20, 21, 22, 23, 24]);
-    Card::LoadSettings {
-        cr0,
-        cr4: random.pick(&[0x20, 0, left_out]),
-        efer: random.pick(&[0x900, 0x800]),
-        width: random.pick(&[40, 31, 53, 255]),
-    }
+    let mut settings = paging_on(random, 50);
+    unserved(random, &mut settings);
+    loaded(&settings)
 }
 
 /// Settings with paging off and other bits anything.
@@ -190,5 +181,26 @@ pub fn paging_off(random: &mut Random) -> Card {
         cr4: (word >> 32) as u32,
         efer: random.word(),
         width: random.pick(&[40, 32, 52]),
+    }
+}
+
+/// Settings with paging on that suit a deck; PGE in so many of a hundred draws.
+fn paging_on(random: &mut Random, global: u64) -> Settings {
+    Settings {
+        cr0: Settings::PE | Settings::PG | random.flag(Settings::WP, 60),
+        cr3: 0x1000,
+        cr4: Settings::PAE | random.flag(Settings::PGE, global),
+        efer: Settings::LME | random.flag(Settings::NXE, 75),
+        width: random.pick(&[40, 40, 40, 40, 36, 39, 52, 32]),
+    }
+}
+
+/// The card that loads these settings, a width that is too large for its byte as 255.
+fn loaded(settings: &Settings) -> Card {
+    Card::LoadSettings {
+        cr0: settings.cr0 as u32,
+        cr4: settings.cr4 as u32,
+        efer: settings.efer,
+        width: settings.width.min(255) as u8,
     }
 }

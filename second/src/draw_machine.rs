@@ -3,12 +3,12 @@
 use crate::cache::{set_of, Cache};
 use crate::card::{Card, CARD};
 use crate::case::{Background, Case};
-use crate::damage::unserved;
 use crate::deck::MEMORY;
 use crate::draw::served;
 use crate::draw_card::{drop_page, load_root, outside_store, paging_off, refused_settings};
 use crate::draw_card::{settings, table_entry, table_store, translation, ENTRIES, PAGES};
 use crate::draw_place::set;
+use crate::draw_settings::unserved;
 use crate::machine::Machine;
 use crate::random::Random;
 use crate::settings::Settings;
@@ -75,6 +75,10 @@ fn page(random: &mut Random) -> u64 {
 fn any_settings(random: &mut Random) -> Settings {
     let mut settings = served(random);
     settings.cr3 = random.pick(&[0x1000, 0x1000, 0x1000, 0x1FFF, 0x6000]);
+    if random.chance(6) {
+        let border = 1 << random.pick(&[32, 36, 39, 40, 40, 52]);
+        settings.cr3 = random.pick(&[border, border - 1]);
+    }
     match random.below(16) {
         0 => settings.cr0 &= !Settings::PG,
         1 | 2 => unserved(random, &mut settings),

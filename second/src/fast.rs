@@ -227,6 +227,7 @@ mod tests {
     /// The fast walk and the plain one agree on fresh cases.
     #[test]
     fn fast_and_plain_agree() {
-        walks(2, 20_000, fast_walk);
+        let tally = walks(2, 20_000, fast_walk);
+        assert_eq!(tally.fewer(1), Vec::<&str>::new(), "{}", tally.table());
     }
 }

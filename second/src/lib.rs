@@ -1,4 +1,4 @@
-//! An independent program for document 01: walks, remembered translations and cards.
+//! An independent program for the papers: walks, remembered translations and cards.
 
 pub mod answer;
 pub mod cache;
@@ -7,6 +7,7 @@ pub mod case;
 pub mod compare;
 pub mod compare_decks;
 pub mod compare_machines;
+pub mod compare_starts;
 pub mod damage;
 pub mod deal;
 pub mod deck;
@@ -15,6 +16,7 @@ pub mod draw;
 pub mod draw_card;
 pub mod draw_machine;
 pub mod draw_place;
+pub mod draw_settings;
 pub mod fast;
 pub mod fast_cache;
 pub mod host;
@@ -26,6 +28,7 @@ pub mod record;
 pub mod rewrite_tally;
 pub mod seed;
 pub mod settings;
+pub mod settings_tally;
 pub mod tally;
 pub mod translate;
 pub mod walk;

@@ -16,11 +16,9 @@ pub struct Machine {
 impl Machine {
     /// A machine with these settings and an empty cache; refused, with registers 0 and M = 40.
     pub fn start(settings: Settings) -> (Answer, Machine) {
-        let served = settings.served();
-        let (number, settings) = if served {
-            (Answer::DONE, settings)
-        } else {
-            (Answer::NOT_SERVED, Settings::initial())
+        let (number, settings) = match settings.refusal() {
+            None => (Answer::DONE, settings),
+            Some(number) => (number, Settings::initial()),
         };
         let cache = Cache::empty();
         (Answer::bare(number), Machine { settings, cache })
@@ -78,8 +76,8 @@ impl Machine {
             cr3,
             ..self.settings
         };
-        if !settings.served() {
-            return Answer::bare(Answer::NOT_SERVED);
+        if let Some(number) = settings.refusal() {
+            return Answer::bare(number);
         }
         self.settings = settings;
         self.cache.keep_global();
@@ -95,8 +93,8 @@ impl Machine {
             width,
             ..self.settings
         };
-        if !settings.served() {
-            return Answer::bare(Answer::NOT_SERVED);
+        if let Some(number) = settings.refusal() {
+            return Answer::bare(number);
         }
         self.settings = settings;
         self.drop_all()
@@ -122,7 +120,7 @@ mod tests {
     use super::Machine;
     use crate::settings::Settings;
 
-    /// A refused start gives 2 and the initial settings, and refused loads leave all.
+    /// A refused start gives its number and the initial settings, and refused loads leave all.
     #[test]
     fn refused_starts_and_loads() {
         let narrow = Settings {
@@ -133,11 +131,50 @@ mod tests {
         assert_eq!(answer.line(1), "1 2 0000000000000000 0 0");
         assert_eq!(machine.settings, Settings::initial());
         let before = machine.clone();
-        assert_eq!(machine.load_root(1 << 40).answer, 2);
-        assert_eq!(machine.load_settings(1 << 31, 0, 0, 40).answer, 2);
+        assert_eq!(machine.load_root(1 << 40).answer, 8);
+        assert_eq!(machine.load_settings(1 << 31, 0, 0, 40).answer, 9);
+        assert_eq!(machine.load_settings(1 << 31, 0, 0, 31).answer, 2);
+        let extended = machine.load_settings(0x8000_0001, 0x1020, 0x100, 40);
+        assert_eq!(extended.line(1), "1 10 0000000000000000 0 0");
         assert_eq!(machine, before);
         assert_eq!(machine.load_root((1 << 40) - 1).answer, 0);
-        assert_eq!(machine.load_settings(0, 0, 0, 39).answer, 2);
+        assert_eq!(machine.load_settings(0, 0, 0, 39).answer, 8);
         assert_eq!(machine.load_settings(0, 0, 0, 41).answer, 0);
+    }
+
+    /// Starts and loads answer the first wrong setting: width, root, paging, extension.
+    #[test]
+    fn the_first_wrong_setting_is_told() {
+        let all = Settings {
+            cr0: 1 << 31,
+            cr3: 1 << 53,
+            cr4: 1 << 20,
+            efer: 0,
+            width: 53,
+        };
+        let width = Settings { width: 52, ..all };
+        let root = Settings { cr3: 0, ..width };
+        let paging = Settings {
+            cr0: 0x8000_0001,
+            cr4: 1 << 20 | 0x20,
+            efer: 0x100,
+            ..root
+        };
+        for (settings, number) in [(all, 2), (width, 8), (root, 9), (paging, 10)] {
+            assert_eq!(Machine::start(settings).0.answer, number);
+            let (_, mut machine) = Machine::start(Settings::initial());
+            machine.settings = settings;
+            assert_eq!(machine.load_root(settings.cr3).answer, number);
+            let Settings {
+                cr0,
+                cr4,
+                efer,
+                width,
+                ..
+            } = settings;
+            let loaded = machine.load_settings(cr0, cr4, efer, width);
+            assert_eq!(loaded.answer, number);
+            assert_eq!(machine.settings, settings);
+        }
     }
 }

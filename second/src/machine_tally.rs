@@ -6,25 +6,36 @@ use crate::card::{Card, CARD};
 use crate::lookup_tally::{self, lookup_rows, Asked};
 use crate::machine::Machine;
 use crate::rewrite_tally::{self, rewrite_rows, rubbish};
-use crate::tally::{settings_rows, Tally};
+use crate::settings::Settings;
+use crate::settings_tally::{self, settings_rows};
+use crate::tally::Tally;
 use crate::translate::canonical;
 
 /// Rows of single calls.
-const CALLS: [&str; 44] = [
+const CALLS: [&str; 53] = [
     "kind 0 answer 0",
     "kind 0 answer 1",
     "kind 0 answer 2",
     "kind 0 answer 3",
     "kind 0 answer 4",
     "kind 0 answer 5",
+    "kind 0 answer 8",
+    "kind 0 answer 9",
+    "kind 0 answer 10",
     "kind 1 answer 0",
     "kind 1 answer 4",
     "kind 2 answer 0",
     "kind 2 answer 2",
+    "kind 2 answer 8",
+    "kind 2 answer 9",
+    "kind 2 answer 10",
     "kind 3 answer 0",
     "kind 4 answer 0",
     "kind 5 answer 0",
     "kind 5 answer 2",
+    "kind 5 answer 8",
+    "kind 5 answer 9",
+    "kind 5 answer 10",
     "unknown kind",
     "short card",
     "long card",
@@ -56,22 +67,8 @@ const CALLS: [&str; 44] = [
     "drop all under settings not served",
     "store under settings not served",
 ];
-/// Rules of served settings that a record breaks at a translation.
-const BROKEN: [&str; 13] = [
-    "settings width below 32",
-    "settings width above 52",
-    "settings CR3 too large",
-    "settings PE clear",
-    "settings PAE clear",
-    "settings LME clear",
-    "settings CR4 bit 12",
-    "settings CR4 bit 17",
-    "settings CR4 bit 20",
-    "settings CR4 bit 21",
-    "settings CR4 bit 22",
-    "settings CR4 bit 23",
-    "settings CR4 bit 24",
-];
+/// Who judges settings on a machine.
+const JUDGES: [&str; 3] = ["translation", "root load", "settings load"];
 
 /// One call: the machine before and after it, memory after it, the card and the number returned.
 pub struct Call<'a> {
@@ -84,7 +81,12 @@ pub struct Call<'a> {
 
 /// A tally with every rule at 0.
 pub fn tally() -> Tally {
-    let mut rows: Vec<String> = CALLS.iter().chain(&BROKEN).map(|r| r.to_string()).collect();
+    let mut rows: Vec<String> = CALLS.map(String::from).into();
+    rows.extend(
+        JUDGES
+            .iter()
+            .flat_map(|judge| settings_tally::expected(judge)),
+    );
     rows.extend(lookup_tally::expected());
     rows.extend(rewrite_tally::expected());
     rows.push("spare bits kept".into());
@@ -108,6 +110,7 @@ pub fn rows(call: &Call) -> Vec<String> {
 /// The rules that a card of a known kind met.
 fn card_rows(call: &Call, card: Card) -> Vec<String> {
     let mut rows = vec![format!("kind {} answer {}", card.kind(), call.returned)];
+    rows.extend(judged_rows(call, &card));
     let done = call.returned == Answer::DONE;
     let unserved = done && !call.before.settings.served();
     let mut add = |found: bool, row: &str| rows.extend(found.then(|| row.to_string()));
@@ -136,6 +139,39 @@ fn card_rows(call: &Call, card: Card) -> Vec<String> {
     rows
 }
 
+/// The rules of settings that a card met which judges them.
+fn judged_rows(call: &Call, card: &Card) -> Vec<String> {
+    let before = call.before.settings;
+    match *card {
+        Card::Translate { .. } if call.returned != Answer::UNKNOWN => {
+            settings_rows("translation", &before)
+        }
+        Card::LoadRoot { value } => {
+            let left = Settings {
+                cr3: value,
+                ..before
+            };
+            settings_rows("root load", &left)
+        }
+        Card::LoadSettings {
+            cr0,
+            cr4,
+            efer,
+            width,
+        } => {
+            let left = Settings {
+                cr0: cr0.into(),
+                cr4: cr4.into(),
+                efer,
+                width: width.into(),
+                ..before
+            };
+            settings_rows("settings load", &left)
+        }
+        _ => Vec::new(),
+    }
+}
+
 /// The number of a tag's set, and that set before the call.
 fn set<'a>(call: &'a Call, tag: u64) -> (u64, &'a Set) {
     let number = set_of(tag);
@@ -152,10 +188,7 @@ fn translation_rows(call: &Call, asked: &Asked, rows: &mut Vec<String>) {
     let beside = rubbish(set, number);
     match call.returned {
         Answer::UNKNOWN => add(beside, "unknown access or mode beside rubbish"),
-        Answer::NOT_SERVED => {
-            add(beside, "settings not served beside rubbish");
-            settings_rows(settings, rows);
-        }
+        _ if !settings.served() => add(beside, "settings not served beside rubbish"),
         Answer::FORM => {
             add(beside, "address form beside rubbish");
             add(

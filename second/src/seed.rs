@@ -1,8 +1,16 @@
-//! The seed of a comparison.
+//! The seed of a comparison, and what it met.
 
 use std::env;
 use std::io::{stderr, Write};
 use std::time::{SystemTime, UNIX_EPOCH};
+
+use crate::tally::Tally;
+
+/// Shows how often each rule was met; one that never was is an error.
+pub fn met(tally: &Tally) {
+    write!(stderr(), "{}", tally.table()).expect("standard error is open");
+    assert_eq!(tally.fewer(1), Vec::<&str>::new(), "rules never met");
+}
 
 /// The seed that SEED names in decimal or hexadecimal, else one from the clock; shown.
 pub fn seed() -> u64 {

@@ -1,4 +1,6 @@
-//! The settings record and which settings are served.
+//! The settings record, which settings are served, and which of them is wrong.
+
+use crate::answer::Answer;
 
 /// CR0, CR3, CR4, EFER and the physical width M.
 #[derive(Clone, Copy, Debug, PartialEq, Eq)]
@@ -18,7 +20,9 @@ impl Settings {
     pub const PGE: u64 = 1 << 7;
     pub const LME: u64 = 1 << 8;
     pub const NXE: u64 = 1 << 11;
-    /// The bits of CR4 that must be clear when paging is on.
+    /// The numbers of CR4's extension bits that are not served.
+    pub const EXTENSIONS: [u64; 7] = [12, 17, 20, 21, 22, 23, 24];
+    /// The same bits of CR4, which must be clear when paging is on.
     pub const LEFT_OUT: u64 = 1 << 12 | 1 << 17 | 0x1F << 20;
 
     /// All registers 0 and M = 40.
@@ -34,16 +38,29 @@ impl Settings {
 
     /// Whether these settings are served.
     pub fn served(&self) -> bool {
-        let width = (32..=52).contains(&self.width);
-        width && self.cr3 >> self.width == 0 && (!self.paging() || self.long_mode())
+        self.refusal().is_none()
     }
 
-    /// Whether PE, PAE and LME are set and the left out bits of CR4 are clear.
-    fn long_mode(&self) -> bool {
+    /// The number that says which setting is wrong, the first in the order of the tests.
+    pub fn refusal(&self) -> Option<u64> {
+        if !(32..=52).contains(&self.width) {
+            return Some(Answer::WIDTH);
+        }
+        if self.cr3 >> self.width != 0 {
+            return Some(Answer::ROOT);
+        }
+        if self.paging() && !self.long_mode() {
+            return Some(Answer::PAGING);
+        }
+        let extended = self.cr4 & Settings::LEFT_OUT != 0;
+        (self.paging() && extended).then_some(Answer::EXTENSION)
+    }
+
+    /// Whether PE, PAE and LME are set.
+    pub fn long_mode(&self) -> bool {
         self.cr0 & Settings::PE != 0
             && self.cr4 & Settings::PAE != 0
             && self.efer & Settings::LME != 0
-            && self.cr4 & Settings::LEFT_OUT == 0
     }
 
     /// Whether paging is on.
@@ -87,51 +104,81 @@ mod tests {
         }
     }
 
-    /// With paging on each tested bit decides.
+    /// The number of the exercise's settings after a change, 0 where they are served.
+    fn number(change: impl FnOnce(&mut Settings)) -> u64 {
+        let mut settings = exercise();
+        change(&mut settings);
+        settings.refusal().unwrap_or(0)
+    }
+
+    /// With paging on each tested bit decides, and tells its number.
     #[test]
     fn paging_on_tests_every_named_bit() {
         assert!(exercise().served());
         for bit in (0..64).filter(|bit| *bit != 31) {
-            let mut settings = exercise();
-            settings.cr0 ^= 1 << bit;
-            assert_eq!(settings.served(), bit != 0, "CR0 bit {bit}");
-            let mut settings = exercise();
-            settings.cr4 ^= 1 << bit;
-            let tested = matches!(bit, 5 | 12 | 17 | 20..=24);
-            assert_eq!(settings.served(), !tested, "CR4 bit {bit}");
-            let mut settings = exercise();
-            settings.efer ^= 1 << bit;
-            assert_eq!(settings.served(), bit != 8, "EFER bit {bit}");
+            let cr0 = number(|settings| settings.cr0 ^= 1 << bit);
+            assert_eq!(cr0, if bit == 0 { 9 } else { 0 }, "CR0 bit {bit}");
+            let cr4 = number(|settings| settings.cr4 ^= 1 << bit);
+            let told = match bit {
+                5 => 9,
+                12 | 17 | 20..=24 => 10,
+                _ => 0,
+            };
+            assert_eq!(cr4, told, "CR4 bit {bit}");
+            let efer = number(|settings| settings.efer ^= 1 << bit);
+            assert_eq!(efer, if bit == 8 { 9 } else { 0 }, "EFER bit {bit}");
         }
     }
 
-    /// M and CR3 are tested at either PG, other bits only with paging on.
+    /// M and CR3 are tested at either PG.
     #[test]
-    fn paging_off_tests_width_and_cr3_alone() {
+    fn width_and_root_are_tested_at_either_paging() {
         for cr0 in [0, 0x8001_0001] {
             for width in [0, 31, 32, 40, 52, 53, 64, 1 << 32 | 40, u64::MAX] {
-                let settings = Settings {
-                    cr0,
-                    width,
-                    ..exercise()
-                };
-                assert_eq!(settings.served(), (32..=52).contains(&width));
+                let told = number(|settings| (settings.cr0, settings.width) = (cr0, width));
+                let served = (32..=52).contains(&width);
+                assert_eq!(told, if served { 0 } else { 2 }, "M = {width}");
             }
-            for (cr3, served) in [((1 << 40) - 1, true), (1 << 40, false), (u64::MAX, false)] {
-                let settings = Settings {
-                    cr0,
-                    cr3,
-                    ..exercise()
-                };
-                assert_eq!(settings.served(), served);
+            for (cr3, known) in [((1 << 40) - 1, 0), (1 << 40, 8), (u64::MAX, 8)] {
+                let told = number(|settings| (settings.cr0, settings.cr3) = (cr0, cr3));
+                assert_eq!(told, known, "CR3 = {cr3:#x}");
             }
         }
-        let settings = Settings {
-            cr0: 0,
-            cr4: u64::MAX,
-            efer: 0,
-            ..exercise()
-        };
-        assert!(settings.served());
+    }
+
+    /// With paging off no other bit is tested.
+    #[test]
+    fn paging_off_tests_width_and_root_alone() {
+        for (cr4, efer) in [(u64::MAX, 0), (0, u64::MAX), (0, 0)] {
+            let told = number(|settings| {
+                (settings.cr0, settings.cr4, settings.efer) = (0, cr4, efer);
+            });
+            assert_eq!(told, 0);
+        }
+    }
+
+    /// Where two neighbours are wrong, the first in the order 2, 8, 9, 10 is told.
+    #[test]
+    fn the_order_of_the_tests() {
+        let large = |settings: &mut Settings| settings.cr3 = 1 << 63;
+        let missing = |settings: &mut Settings| settings.efer = 0;
+        let extended = |settings: &mut Settings| settings.cr4 |= 1 << 24;
+        for width in [31, 53, 64, 255] {
+            let told = number(|settings| {
+                large(settings);
+                settings.width = width;
+            });
+            assert_eq!(told, 2);
+        }
+        let told = number(|settings| {
+            large(settings);
+            missing(settings);
+        });
+        assert_eq!(told, 8);
+        let told = number(|settings| {
+            missing(settings);
+            extended(settings);
+        });
+        assert_eq!(told, 9);
     }
 }

@@ -5,11 +5,11 @@ use std::collections::BTreeMap;
 use crate::answer::Answer;
 use crate::case::Case;
 use crate::settings::Settings;
+use crate::settings_tally::{self, settings_rows};
 use crate::translate::{FETCH, SUPERVISOR, USER, WRITE};
 use crate::walk::{self, walk, End, Walk};
 
 const CODES: [u64; 17] = [0, 2, 4, 6, 16, 20, 3, 5, 7, 17, 21, 9, 11, 13, 15, 25, 29];
-const LEFT_OUT: [u64; 7] = [12, 17, 20, 21, 22, 23, 24];
 
 /// The count of each row.
 pub struct Tally {
@@ -26,6 +26,11 @@ impl Tally {
     pub fn of_rows(rows: Vec<String>) -> Tally {
         let counts = rows.into_iter().map(|row| (row, 0)).collect();
         Tally { counts }
+    }
+
+    /// Adds rows at 0.
+    pub fn expect(&mut self, rows: impl IntoIterator<Item = String>) {
+        self.counts.extend(rows.into_iter().map(|row| (row, 0)));
     }
 
     /// Counts the rows of one case.
@@ -61,7 +66,9 @@ impl Tally {
 
 /// Every row that a good draw of cases brings up.
 fn expected() -> Vec<String> {
-    let mut rows: Vec<String> = (0..6).map(|number| format!("answer {number}")).collect();
+    let mut rows: Vec<String> = [0, 1, 2, 3, 4, 5, 8, 9, 10]
+        .map(|number| format!("answer {number}"))
+        .into();
     for size in 1..=3 {
         rows.extend((0..3).map(|access| format!("success size {size} access {access}")));
     }
@@ -74,7 +81,7 @@ fn expected() -> Vec<String> {
     }
     rows.extend([2, 3].map(|level| format!("reserved low bits level {level}")));
     rows.extend(CODES.map(|code| format!("fault code {code:2}")));
-    rows.extend(LEFT_OUT.map(|bit| format!("settings CR4 bit {bit}")));
+    rows.extend(settings_tally::expected("walk"));
     let single = [
         "reserved bit 7 level 4",
         "outside astride the end",
@@ -85,12 +92,6 @@ fn expected() -> Vec<String> {
         "form with paging off",
         "unknown access",
         "unknown mode",
-        "settings width below 32",
-        "settings width above 52",
-        "settings CR3 too large",
-        "settings PE clear",
-        "settings PAE clear",
-        "settings LME clear",
         "walk in memory of 0 bytes",
         "walk in memory that ends within an entry",
         "walk with width 32",
@@ -105,12 +106,15 @@ fn expected() -> Vec<String> {
 pub fn rows(case: &Case, memory: &[u8], answer: &Answer) -> Vec<String> {
     let mut rows = vec![format!("answer {}", answer.answer)];
     let settings = &case.settings;
+    if answer.answer != Answer::UNKNOWN {
+        rows.extend(settings_rows("walk", settings));
+    }
     match answer.answer {
         Answer::UNKNOWN => {
             rows.extend((case.access > FETCH).then(|| "unknown access".into()));
             rows.extend((case.mode > USER).then(|| "unknown mode".into()));
         }
-        Answer::NOT_SERVED => settings_rows(settings, &mut rows),
+        _ if !settings.served() => {}
         Answer::FORM if settings.paging() => rows.push("form with paging on".into()),
         Answer::FORM => rows.push("form with paging off".into()),
         _ if !settings.paging() => rows.push("success size 0".into()),
@@ -121,26 +125,6 @@ pub fn rows(case: &Case, memory: &[u8], answer: &Answer) -> Vec<String> {
         }
     }
     rows
-}
-
-/// Adds each rule of served settings that is broken.
-pub fn settings_rows(settings: &Settings, rows: &mut Vec<String>) {
-    let mut add = |broken: bool, row: &str| rows.extend(broken.then(|| format!("settings {row}")));
-    add(settings.width < 32, "width below 32");
-    add(settings.width > 52, "width above 52");
-    let width = (32..=52).contains(&settings.width);
-    add(
-        width && settings.cr3 >> settings.width != 0,
-        "CR3 too large",
-    );
-    if settings.paging() && width && settings.cr3 >> settings.width == 0 {
-        add(settings.cr0 & Settings::PE == 0, "PE clear");
-        add(settings.cr4 & Settings::PAE == 0, "PAE clear");
-        add(settings.efer & Settings::LME == 0, "LME clear");
-        for bit in LEFT_OUT {
-            add(settings.cr4 & 1 << bit != 0, &format!("CR4 bit {bit}"));
-        }
-    }
 }
 
 /// Adds the rows of a walk that was made.

@@ -60,8 +60,8 @@ pub fn refusal(settings: &Settings, address: u64, access: u64, mode: u64) -> Opt
     if access > FETCH || mode > USER {
         return Some(Answer::bare(Answer::UNKNOWN));
     }
-    if !settings.served() {
-        return Some(Answer::bare(Answer::NOT_SERVED));
+    if let Some(number) = settings.refusal() {
+        return Some(Answer::bare(number));
     }
     let formed = if settings.paging() {
         canonical(address)

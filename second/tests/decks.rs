@@ -6,7 +6,7 @@ use std::process::{Command, Stdio};
 
 use aalbrett_raw::{self as raw, Machine, Settings};
 use second::compare_decks::{decks, steps};
-use second::seed::seed;
+use second::seed::{met, seed};
 
 const DECKS: u64 = 3000;
 
@@ -39,11 +39,11 @@ fn run(program: &str, input: &[u8]) -> String {
     String::from_utf8(output.stdout).expect("it prints text")
 }
 
-/// The lines are the same on every deck.
+/// The lines are the same on every deck, and every event was met.
 #[test]
 fn the_products_decks_agree() {
     let program = env::var("AALBRETT_DECK").expect("AALBRETT_DECK names the card program");
-    decks(seed(), DECKS, |input| run(&program, input));
+    met(&decks(seed(), DECKS, |input| run(&program, input)));
 }
 
 /// Numbers, buffers and memory are the same byte by byte after every card.

@@ -1,18 +1,23 @@
-//! The product's step beside this program's on handmade machines: any places, any settings, any memory.
+//! The product's starts and steps beside this program's on handmade machines: any places, any settings, any memory.
 
-use std::io::{stderr, Write};
-
-use aalbrett_raw::step;
+use aalbrett_raw::{start, step};
 use second::compare_machines::machines;
-use second::seed::seed;
+use second::compare_starts::starts;
+use second::seed::{met, seed};
 
+/// The machines started.
+const STARTS: u64 = 25_000;
 /// The machines drawn; each is stepped by eight cards.
 const MACHINES: u64 = 25_000;
+
+/// Numbers and whole records are the same after every start, and every rule was met.
+#[test]
+fn the_products_starts_agree() {
+    met(&starts(seed(), STARTS, start));
+}
 
 /// Numbers, whole records, buffers and memory are the same after every card, and every rule was met.
 #[test]
 fn the_products_machine_agrees() {
-    let tally = machines(seed(), MACHINES, step);
-    write!(stderr(), "{}", tally.table()).expect("standard error is open");
-    assert_eq!(tally.fewer(1), Vec::<&str>::new(), "rules never met");
+    met(&machines(seed(), MACHINES, step));
 }

@@ -2,9 +2,9 @@
 
 use aalbrett_raw::aalbrett_walk;
 use second::compare::walks;
-use second::seed::seed;
+use second::seed::{met, seed};
 
-/// Answers, memory and buffers are the same byte by byte.
+/// Answers, memory and buffers are the same byte by byte, and every rule was met.
 #[test]
 fn the_products_walk_agrees() {
     let count = if cfg!(debug_assertions) {
@@ -12,5 +12,5 @@ fn the_products_walk_agrees() {
     } else {
         250_000
     };
-    walks(seed(), count, aalbrett_walk);
+    met(&walks(seed(), count, aalbrett_walk));
 }

@@ -5,10 +5,11 @@ use mathlib.Core.Bool.{Bool, true, false, not, cond, false≢true}
 use mathlib.Core.List.{List}
 use lib.Dec.{eqb}
 use Rattle.settings.specs.declared.Settings.{Settings}
-use Rattle.settings.specs.Settings.{initial, served}
+use Rattle.settings.specs.declared.Service.{Service}
+use Rattle.settings.specs.declared.Service.the-variants.{Served, NotServed}
+use Rattle.settings.specs.Settings.{initial, judged}
 use Rattle.address.specs.declared.VirtAddr.{VirtAddr}
 use Rattle.walk.specs.declared.Way.{Way}
-use Rattle.walk.specs.declared.Answer.the-variants as Answer
 use Rattle.walk.specs.declared.Asked.{Asked}
 use Rattle.walk.specs.declared.Asked.the-variants as Asked
 use Rattle.walk.specs.declared.Walked.{Walked}
@@ -19,7 +20,7 @@ use Rattle.walk.specs.Translate.{asked, answered, fresh, freshMemory, translate
 use Rattle.walk.specs.Walk.{after, walkPath, walkAnswer}
 use Rattle.cache.specs.Whole.{emptyCache}
 use Rattle.machine.specs.declared.Machine.{Machine}
-use Rattle.machine.specs.Calls.{done}
+use Rattle.machine.specs.Calls.{loadAnswer, ifServed}
 use Rattle.card.specs.Card.{stepped}
 use Rattle.card.proofs.Demand1 as cards
 use Rattle.aalbrett.specs.Host.{short, registers}
@@ -36,7 +37,7 @@ walked-bytes s address a write p memory (Walked.Outside at l n) h = refl
 asked-bytes : (s : Settings) (address : VirtAddr) (memory : List ℕ) (q : Asked) → not (eqb (numbers (fresh s address memory q) .answer) 0) ≡ true
     → freshMemory s address memory q ≡ memory
 asked-bytes s address memory Asked.Unknown h = refl
-asked-bytes s address memory Asked.NotServed h = refl
+asked-bytes s address memory (Asked.NotServed why) h = refl
 asked-bytes s address memory Asked.Form h = refl
 asked-bytes s address memory (Asked.Off at) h = refl
 asked-bytes s address memory (Asked.On a) h = walked-bytes s address a (writes a) (walkPath s address memory) memory (walkAnswer s address a memory) h
@@ -68,12 +69,12 @@ step-refused m memory card buffer = record { when-short = λ h. (rw h, rw h, rw 
     go false h = cards.demand1 m memory card h .bytes
 
 start-refused : StartRefused
-start-refused s = go (served s)
+start-refused s = go (judged s)
   where
-    go : (b : Bool) → not (eqb (numbers (cond b done Answer.NotServed) .answer) 0) ≡ true
-        → _≡_ {A = Machine} (record { settings = cond b s initial; cache = emptyCache }) (record { settings = initial; cache = emptyCache })
-    go true h = absurd (false≢true h)
-    go false h = refl
+    go : (x : Service) → not (eqb (numbers (loadAnswer x) .answer) 0) ≡ true
+        → _≡_ {A = Machine} (record { settings = ifServed x s initial; cache = emptyCache }) (record { settings = initial; cache = emptyCache })
+    go Served h = absurd (false≢true h)
+    go (NotServed why) h = refl
 
 pub demand1 : Demand1
 demand1 = record { walk = walk-refused; walk-short = walk-short; step = step-refused; start = start-refused }

@@ -37,7 +37,7 @@ pub record StepRefused (m : Machine) (memory card buffer : List ℕ) : Type 0 wh
       × (lent.bufferAfter m memory card buffer ≡ buffer)
   pub bytes : not (eqb (stepNumber m memory card buffer) 0) ≡ true → lent.memoryAfter m memory card buffer ≡ memory
 
--- "A refused start gives 2 and an empty cache with all registers 0 and M = 40."
+-- "A refused start gives" its number "and an empty cache with all registers 0 and M = 40."
 abbrev pub StartRefused : Type 0
 StartRefused =
     (s : Settings) → not (eqb (startNumber s) 0) ≡ true → started s .machine ≡ record { settings = initial; cache = emptyCache }

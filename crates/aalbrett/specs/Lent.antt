@@ -10,7 +10,7 @@ use Rattle.machine.specs.Calls.{started}
 use Rattle.card.specs.Card.{Turned, stepped}
 use Rattle.aalbrett.specs.Host.{short, written}
 
--- a start's number: "A refused start gives 2"
+-- a start's number: 0, or that of what is wrong with the settings
 abbrev pub startNumber : Settings → ℕ
 startNumber s = numbers (started s .answer) .answer
 

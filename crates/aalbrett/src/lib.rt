@@ -49,7 +49,7 @@ pub extern "C" fn aalbrett_walk(
     told.answer
 }
 
-// Starts a machine that the host lends: gives 0, or 2 where the settings are not served.
+// Starts a machine that the host lends: gives 0, or 2, 8, 9 or 10 where the settings are not served.
 #[no_mangle]
 pub extern "C" fn aalbrett_start(
     machine: &mut Machine,

@@ -6,7 +6,9 @@ use mathlib.Core.Bool.{Bool, true, false, cond}
 use borrow.Author.Tests.{leb-true}
 use lib.Dec.{leb, ltb}
 use Rattle.settings.specs.declared.Settings.{Settings}
-use Rattle.settings.specs.Settings.{served, pg, widthServed}
+use Rattle.settings.specs.declared.Service.{Service}
+use Rattle.settings.specs.declared.Service.the-variants.{Served, NotServed}
+use Rattle.settings.specs.Settings.{served, judged, pg, widthServed}
 use Rattle.word.specs.Bits.{bit}
 use Rattle.address.specs.declared.VirtAddr.{VirtAddr}
 use Rattle.address.specs.Address.{tag, canonical}
@@ -14,7 +16,8 @@ use Rattle.walk.specs.declared.Way.{Way}
 use Rattle.walk.specs.declared.Asked.{Asked}
 use Rattle.walk.specs.declared.Asked.the-variants as Asked
 use Rattle.walk.specs.Access.{known, wayOf}
-use Rattle.walk.specs.Translate.{asked, askedOff}
+use Rattle.walk.specs.Translate.{asked, askedOf, askedOff}
+use Rattle.walk.proofs.Asking.{judged-served, served-is}
 use Rattle.cache.proofs.Lists.{and-true}
 use Rattle.machine.proofs.Frames.{canonical-same}
 use Rattle.machine.proofs.Places.{Alike}
@@ -28,17 +31,16 @@ pub record Due (s : Settings) (address : VirtAddr) (access mode : ℕ) (a : Way)
   pub is-access : wayOf access mode ≡ a
 
 -- the tests, in plain bools
-abbrev tests : Bool → Bool → Bool → Bool → Way → Asked → Asked
-tests known served pg canonical a off =
-    cond known (cond served (cond pg (cond canonical (Asked.On a) Asked.Form) off) Asked.NotServed) Asked.Unknown
+abbrev tests : Bool → Service → Bool → Bool → Way → Asked → Asked
+tests known service pg canonical a off = cond known (askedOf service (cond pg (cond canonical (Asked.On a) Asked.Form) off)) Asked.Unknown
 
-tests-on : (known served pg canonical : Bool) (b a : Way) (off : Asked) → (off ≡ Asked.On a → ⊥) → tests known served pg canonical b off ≡ Asked.On a
-    → (known ≡ true) × (served ≡ true) × (pg ≡ true) × (canonical ≡ true) × (b ≡ a)
-tests-on true true true true b a off never h = (refl, refl, refl, refl, cc)
-tests-on true true true false b a off never h = (refl, refl, refl, cc, cc)
-tests-on true true false canonical b a off never h = absurd (never h)
-tests-on true false pg canonical b a off never h = (cc, cc, cc, cc, cc)
-tests-on false served pg canonical b a off never h = (cc, cc, cc, cc, cc)
+tests-on : (known : Bool) (service : Service) (pg canonical : Bool) (b a : Way) (off : Asked) → (off ≡ Asked.On a → ⊥)
+    → tests known service pg canonical b off ≡ Asked.On a → (known ≡ true) × (service ≡ Served) × (pg ≡ true) × (canonical ≡ true) × (b ≡ a)
+tests-on true Served true true b a off never h = (refl, refl, refl, refl, cc)
+tests-on true Served true false b a off never h = (refl, refl, refl, cc, cc)
+tests-on true Served false canonical b a off never h = absurd (never h)
+tests-on true (NotServed why) pg canonical b a off never h = (cc, cc, cc, cc, cc)
+tests-on false service pg canonical b a off never h = (cc, cc, cc, cc, cc)
 
 -- with paging off no walk is due
 off-none : (address : VirtAddr) (a : Way) → askedOff address ≡ Asked.On a → ⊥
@@ -50,8 +52,8 @@ off-none address a h = go (ltb (address .0) (2 ^ 32)) h
 
 pub due : (s : Settings) (address : VirtAddr) (access mode : ℕ) (a : Way) → asked s address access mode ≡ Asked.On a → Due s address access mode a
 due s address access mode a h =
-    let x = tests-on (known access mode) (served s) (pg s) (canonical address) (wayOf access mode) a (askedOff address) (off-none address a) h in
-    record { is-known = x .0; is-served = x .1; is-on = x .2; is-canonical = x .3; is-access = x .4 }
+    let x = tests-on (known access mode) (judged s) (pg s) (canonical address) (wayOf access mode) a (askedOff address) (off-none address a) h in
+    record { is-known = x .0; is-served = judged-served s (x .1); is-on = x .2; is-canonical = x .3; is-access = x .4 }
 
 -- served settings have a width from 32 on
 pub served-wide : (s : Settings) → served s ≡ true → 7 ≤ s .width
@@ -65,5 +67,5 @@ served-wide s h =
 pub due-again : (s s′ : Settings) (first later : VirtAddr) (access mode : ℕ) (a : Way) → Alike s s′ → served s′ ≡ true → tag first ≡ tag later
     → Due s first access mode a → asked s′ later access mode ≡ Asked.On a
 due-again s s′ first later access mode a alike serving same d =
-    rw (d .is-known, serving, ← (ap (λ (n : ℕ). bit n 31) (alike .cr0-same)), d .is-on, ← (canonical-same first later same), d .is-canonical)
+    rw (d .is-known, served-is s′ serving, ← (ap (λ (n : ℕ). bit n 31) (alike .cr0-same)), d .is-on, ← (canonical-same first later same), d .is-canonical)
     (ap Asked.On (d .is-access))

@@ -4,7 +4,10 @@ use mathlib.Core.Path.{_≡_, refl, sym, subst, _∙_}
 use mathlib.Core.Bool.{Bool, true, false, cond, false≢true}
 use mathlib.Core.List.{List}
 use Rattle.word.specs.Bytes.{inside, store}
-use Rattle.settings.specs.Settings.{served}
+use Rattle.settings.specs.declared.Unserved.the-variants.{Width, Root, Paging, Extension}
+use Rattle.settings.specs.declared.Service.{Service}
+use Rattle.settings.specs.declared.Service.the-variants.{Served, NotServed}
+use Rattle.settings.specs.Settings.{judged}
 use Rattle.address.specs.declared.VirtAddr.{VirtAddr}
 use Rattle.address.specs.Address.{tag}
 use Rattle.walk.specs.declared.Answer.{Answer}
@@ -15,7 +18,7 @@ use Rattle.cache.proofs.Laws.{held-drop}
 use Rattle.machine.specs.declared.Call.{Call}
 use Rattle.machine.specs.declared.Call.the-variants as Call
 use Rattle.machine.specs.declared.Machine.{Machine}
-use Rattle.machine.specs.Calls.{Result, step, storedResult, rootLoaded, settingsLoaded, pageDropped, allDropped, done, withCache, withRoot, withSettings}
+use Rattle.machine.specs.Calls.{Result, step, storedResult, rootLoaded, settingsLoaded, pageDropped, allDropped, loadAnswer, ifServed, done, withCache, withRoot, withSettings}
 use Rattle.machine.specs.Demand1.{Demand1, among, refusals, refused, faulted, dropsAsked, leaves}
 use Rattle.machine.proofs.Translations.{Goes, goes, quiet, hits, fills}
 use Rattle.machine.proofs.Translations as Ways
@@ -32,7 +35,10 @@ record Leaves (m : Machine) (memory : List ℕ) (c : Call) (r : Result) : Type 0
 named : (r : Answer) → refused r ≡ true → among (numbers r .answer) refusals ≡ true
 named (Answer.Done at size n) h = absurd (false≢true h)
 named Answer.Unknown h = refl
-named Answer.NotServed h = refl
+named (Answer.NotServed Width) h = refl
+named (Answer.NotServed Root) h = refl
+named (Answer.NotServed Paging) h = refl
+named (Answer.NotServed Extension) h = refl
 named Answer.Form h = refl
 named (Answer.Outside at l n) h = refl
 named (Answer.Fault code l n) h = refl
@@ -74,11 +80,10 @@ module _ (m : Machine) (memory : List ℕ) where
     translation (Ways.drops r no-success fault is fresh-is left-is) = subst Leaving (sym is) (dropped r fault)
 
   -- a load that is refused leaves the machine
-  load-leaves : (c : Call) → ((r : Answer) (i : ℕ) → held i (m .cache) ≡ leaves c r (held i (m .cache))) → (x : Machine) (ok : Bool)
-      → refused (cond ok done Answer.NotServed) ≡ true
-      → Leaves m memory c (record { answer = cond ok done Answer.NotServed; machine = cond ok x m; memory = memory })
-  load-leaves c same x true h = absurd (false≢true h)
-  load-leaves c same x false h = unmoved c Answer.NotServed (same Answer.NotServed) h
+  load-leaves : (c : Call) → ((r : Answer) (i : ℕ) → held i (m .cache) ≡ leaves c r (held i (m .cache))) → (x : Machine) (service : Service)
+      → refused (loadAnswer service) ≡ true → Leaves m memory c (record { answer = loadAnswer service; machine = ifServed service x m; memory = memory })
+  load-leaves c same x Served h = absurd (false≢true h)
+  load-leaves c same x (NotServed why) h = unmoved c (Answer.NotServed why) (same (Answer.NotServed why)) h
 
   store-leaves : (at value : ℕ) (ok : Bool) → refused (cond ok done (Answer.Outside (record { 0 = at }) 0 0)) ≡ true
       → Leaves m memory (Call.Store at value)
@@ -92,12 +97,12 @@ module _ (m : Machine) (memory : List ℕ) where
   call-leaves (Call.Store at value) h = store-leaves at value (inside memory at) h
   call-leaves (Call.LoadRoot value) h =
       load-leaves (Call.LoadRoot value) (λ r i. refl) (record { settings = withRoot (m .settings) value; cache = loadRoot (m .cache) })
-      (served (withRoot (m .settings) value))
+      (judged (withRoot (m .settings) value))
       h
   call-leaves (Call.LoadSettings cr0 cr4 efer width) h =
       load-leaves (Call.LoadSettings cr0 cr4 efer width) (λ r i. refl)
       (record { settings = withSettings (m .settings) cr0 cr4 efer width; cache = emptyCache })
-      (served (withSettings (m .settings) cr0 cr4 efer width))
+      (judged (withSettings (m .settings) cr0 cr4 efer width))
       h
   call-leaves (Call.DropPage address) h = absurd (false≢true h)
   call-leaves Call.DropAll h = absurd (false≢true h)

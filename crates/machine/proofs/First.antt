@@ -10,7 +10,9 @@ use lib.ListN.{length}
 use Rattle.word.specs.Bytes.{inside, stored, store}
 use Rattle.word.proofs.Laws.{store-length}
 use Rattle.settings.specs.declared.Settings.{Settings}
-use Rattle.settings.specs.Settings.{served}
+use Rattle.settings.specs.declared.Service.{Service}
+use Rattle.settings.specs.declared.Service.the-variants.{Served, NotServed}
+use Rattle.settings.specs.Settings.{judged}
 use Rattle.address.specs.declared.VirtAddr.{VirtAddr}
 use Rattle.address.specs.Address.{tag, canonical}
 use Rattle.walk.specs.declared.Way.{Way}
@@ -32,7 +34,7 @@ use Rattle.machine.specs.declared.Call.{Call}
 use Rattle.machine.specs.declared.Call.the-variants as Call
 use Rattle.machine.specs.declared.Machine.{Machine}
 use Rattle.machine.specs.Remember.{placeOf, hit}
-use Rattle.machine.specs.Calls.{Result, step, withCache, withRoot, withSettings, done, started}
+use Rattle.machine.specs.Calls.{loadAnswer, ifServed, Result, step, withCache, withRoot, withSettings, done, started}
 use Rattle.machine.specs.Calls as Calls
 use Rattle.machine.specs.Series.{Event, call, stores, Stand, replaced, leads, run, start}
 use Rattle.machine.specs.History.{Latest, none, walk, walkOf, succeeded, succeeded, drops, stillKnown, noted, notedEvent, latest}
@@ -40,7 +42,7 @@ use Rattle.machine.proofs.Marking.{marks-length}
 use Rattle.machine.proofs.Places.{found-reads, found-memory, found-filled}
 use Rattle.machine.proofs.Hits.{Backs}
 use Rattle.machine.proofs.Asked.{Due, due, served-wide}
-use Rattle.machine.proofs.Translations.{Goes, quiet, hits, fills, filledResult, goes}
+use Rattle.machine.proofs.Translations.{not-accepted, Goes, quiet, hits, fills, filledResult, goes}
 use Rattle.machine.proofs.Translations as Ways
 use Rattle.machine.proofs.Lists.{Has}
 use Rattle.machine.proofs.Sound.{Own, Sound, known-all, noted-quiet, noted-other, noted-walk, dropped-own, dropped-any, emptied, filled-own, filled-other, rooted}
@@ -161,35 +163,37 @@ module _ (t size : ℕ) (m : Machine) (memory : List ℕ) (w : Latest) (sound : 
   -- a root load
   after-root : (value : ℕ) → Next (Call.LoadRoot value) (step m memory (Call.LoadRoot value))
   unfolding step Calls.rootLoaded
-  after-root value = go (served (withRoot s value))
+  after-root value = go (judged (withRoot s value))
     where
-      go : (b : Bool) → Next (Call.LoadRoot value)
-          (record { answer = cond b done Answer.NotServed; machine = cond b (record { settings = withRoot s value; cache = loadRoot (m .cache) }) m; memory = memory })
-      go true =
+      go : (x : Service) → Next (Call.LoadRoot value)
+          (record { answer = loadAnswer x; machine = ifServed x (record { settings = withRoot s value; cache = loadRoot (m .cache) }) m; memory = memory })
+      go Served =
           record {
             sixteen = root-sixteen (m .cache);
             as-long = sound .as-long;
             backed = rooted t size s value w done (m .cache) (sound .sixteen) refl (sound .backed);
           }
-      go false = unchanged (Call.LoadRoot value) Answer.NotServed memory refl (known-all t (Call.LoadRoot value) Answer.NotServed w (λ v. refl))
+      go (NotServed why) =
+          unchanged (Call.LoadRoot value) (Answer.NotServed why) memory refl
+          (known-all t (Call.LoadRoot value) (Answer.NotServed why) w (λ v. rw (not-accepted why)))
 
   -- a settings load
   after-settings : (cr0 cr4 efer width : ℕ) → Next (Call.LoadSettings cr0 cr4 efer width) (step m memory (Call.LoadSettings cr0 cr4 efer width))
   unfolding step Calls.settingsLoaded
-  after-settings cr0 cr4 efer width = go (served (withSettings s cr0 cr4 efer width))
+  after-settings cr0 cr4 efer width = go (judged (withSettings s cr0 cr4 efer width))
     where
-      go : (b : Bool) → Next (Call.LoadSettings cr0 cr4 efer width)
-          (record { answer = cond b done Answer.NotServed; machine = cond b (record { settings = withSettings s cr0 cr4 efer width; cache = emptyCache }) m; memory = memory })
-      go true =
+      go : (x : Service) → Next (Call.LoadSettings cr0 cr4 efer width)
+          (record { answer = loadAnswer x; machine = ifServed x (record { settings = withSettings s cr0 cr4 efer width; cache = emptyCache }) m; memory = memory })
+      go Served =
           record {
             sixteen = empty-sixteen;
             as-long = sound .as-long;
             backed =
                 emptied t size (withSettings s cr0 cr4 efer width) (stillKnown t (Call.LoadSettings cr0 cr4 efer width) done w) (m .cache) (sound .sixteen);
           }
-      go false =
-          unchanged (Call.LoadSettings cr0 cr4 efer width) Answer.NotServed memory refl
-          (known-all t (Call.LoadSettings cr0 cr4 efer width) Answer.NotServed w (λ v. refl))
+      go (NotServed why) =
+          unchanged (Call.LoadSettings cr0 cr4 efer width) (Answer.NotServed why) memory refl
+          (known-all t (Call.LoadSettings cr0 cr4 efer width) (Answer.NotServed why) w (λ v. not-accepted why))
 
   -- "drop all"
   after-all : Next Call.DropAll (step m memory Call.DropAll)

@@ -9,12 +9,14 @@ use borrow.Author.Tests.{eqb-false, eq-eqb, ne-eqb, not-false}
 use lib.Dec.{eqb}
 use lib.ListN.{length, take}
 use Rattle.settings.specs.declared.Settings.{Settings}
-use Rattle.settings.specs.Settings.{served}
+use Rattle.settings.specs.declared.Service.{Service}
+use Rattle.settings.specs.declared.Service.the-variants.{Served, NotServed}
+use Rattle.settings.specs.Settings.{served, judged}
 use Rattle.address.specs.declared.VirtAddr.{VirtAddr}
 use Rattle.address.specs.Address.{tag, canonical}
-use Rattle.walk.specs.declared.Answer.{Answer}
 use Rattle.walk.specs.declared.Answer.the-variants as Answer
 use Rattle.walk.proofs.Laws.{by-cases}
+use Rattle.walk.proofs.Asking.{judged-served}
 use Rattle.cache.specs.declared.Cache.{Cache}
 use Rattle.cache.specs.declared.Found.the-variants as Found
 use Rattle.cache.specs.declared.Place.{Place}
@@ -29,7 +31,7 @@ use Rattle.machine.specs.declared.Call.{Call}
 use Rattle.machine.specs.declared.Call.the-variants as Call
 use Rattle.machine.specs.declared.Machine.{Machine}
 use Rattle.machine.specs.Remember.{placeOf}
-use Rattle.machine.specs.Calls.{Result, step, withCache, withRoot, withSettings, done}
+use Rattle.machine.specs.Calls.{loadAnswer, ifServed, Result, step, withCache, withRoot, withSettings, done}
 use Rattle.machine.specs.Calls as Calls
 use Rattle.machine.specs.Series.{Event, call, stores, Stand, leads, run}
 use Rattle.machine.specs.History.{Walk, asks, drops}
@@ -162,15 +164,15 @@ module _ (t : ℕ) (pages : List ℕ) (at-most : length pages ≤ others) (p : P
 
       after-root : (value : ℕ) → Spared (Call.LoadRoot value) (step m memory (Call.LoadRoot value))
       unfolding step Calls.rootLoaded
-      after-root value = go (served (withRoot (m .settings) value)) refl
+      after-root value = go (judged (withRoot (m .settings) value)) refl
         where
-          go : (b : Bool) → served (withRoot (m .settings) value) ≡ b
+          go : (x : Service) → judged (withRoot (m .settings) value) ≡ x
               → Spared (Call.LoadRoot value) (record {
-                answer = cond b done Answer.NotServed;
-                machine = cond b (record { settings = withRoot (m .settings) value; cache = loadRoot (m .cache) }) m;
+                answer = loadAnswer x;
+                machine = ifServed x (record { settings = withRoot (m .settings) value; cache = loadRoot (m .cache) }) m;
                 memory = memory;
               })
-          go true ok = λ no-drop not-asked counting.
+          go Served ok = λ no-drop not-asked counting.
               record {
                 stays-in = root-stays (m .cache) (same-global ∙ not-false (w .global) no-drop) (k .stays-in);
                 alike = record {
@@ -179,21 +181,21 @@ module _ (t : ℕ) (pages : List ℕ) (at-most : length pages ≤ others) (p : P
                   efer-same = k .alike .efer-same;
                   width-same = k .alike .width-same;
                 };
-                serving = ok;
+                serving = judged-served (withRoot (m .settings) value) ok;
               }
-          go false ok = λ no-drop not-asked counting. k
+          go (NotServed why) ok = λ no-drop not-asked counting. k
 
       after-settings : (cr0 cr4 efer width : ℕ) → Spared (Call.LoadSettings cr0 cr4 efer width) (step m memory (Call.LoadSettings cr0 cr4 efer width))
       unfolding step Calls.settingsLoaded
-      after-settings cr0 cr4 efer width = go (served (withSettings (m .settings) cr0 cr4 efer width))
+      after-settings cr0 cr4 efer width = go (judged (withSettings (m .settings) cr0 cr4 efer width))
         where
-          go : (b : Bool) → Spared (Call.LoadSettings cr0 cr4 efer width) (record {
-            answer = cond b done Answer.NotServed;
-            machine = cond b (record { settings = withSettings (m .settings) cr0 cr4 efer width; cache = emptyCache }) m;
+          go : (x : Service) → Spared (Call.LoadSettings cr0 cr4 efer width) (record {
+            answer = loadAnswer x;
+            machine = ifServed x (record { settings = withSettings (m .settings) cr0 cr4 efer width; cache = emptyCache }) m;
             memory = memory;
           })
-          go true = λ no-drop not-asked counting. absurd (false≢true (sym no-drop))
-          go false = λ no-drop not-asked counting. k
+          go Served = λ no-drop not-asked counting. absurd (false≢true (sym no-drop))
+          go (NotServed why) = λ no-drop not-asked counting. k
 
       after-page : (address : VirtAddr) → Spared (Call.DropPage address) (step m memory (Call.DropPage address))
       unfolding step Calls.pageDropped

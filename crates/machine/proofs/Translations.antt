@@ -4,6 +4,8 @@ use mathlib.Core.Path.{_≡_, refl}
 use mathlib.Core.Bool.{true, false}
 use mathlib.Core.List.{List}
 use Rattle.settings.specs.declared.Settings.{Settings}
+use Rattle.settings.specs.declared.Unserved.{Unserved}
+use Rattle.settings.specs.declared.Unserved.the-variants.{Width, Root, Paging, Extension}
 use Rattle.address.specs.declared.VirtAddr.{VirtAddr}
 use Rattle.address.specs.Address.{tag}
 use Rattle.walk.specs.declared.Way.{Way}
@@ -29,7 +31,26 @@ use Rattle.machine.specs.Remember.{wanted, placeOf, hit}
 use Rattle.machine.specs.Calls.{Result, step, withCache}
 use Rattle.machine.specs.Calls as Calls
 use Rattle.machine.specs.Demand1.{faulted}
-use Rattle.machine.specs.History.{succeeded}
+use Rattle.machine.specs.History.{succeeded, accepted}
+
+-- a refusal of settings is no success, no fault, and no load that is accepted
+pub not-succeeded : (why : Unserved) → succeeded (Answer.NotServed why) ≡ false
+not-succeeded Width = refl
+not-succeeded Root = refl
+not-succeeded Paging = refl
+not-succeeded Extension = refl
+
+pub not-faulted : (why : Unserved) → faulted (Answer.NotServed why) ≡ false
+not-faulted Width = refl
+not-faulted Root = refl
+not-faulted Paging = refl
+not-faulted Extension = refl
+
+pub not-accepted : (why : Unserved) → accepted (Answer.NotServed why) ≡ false
+not-accepted Width = refl
+not-accepted Root = refl
+not-accepted Paging = refl
+not-accepted Extension = refl
 
 module _ (m : Machine) (memory : List ℕ) (address : VirtAddr) (access mode : ℕ) where
   abbrev s : Settings
@@ -89,7 +110,7 @@ module _ (m : Machine) (memory : List ℕ) (address : VirtAddr) (access mode : �
   by-asked : (x : Asked) → asked s address access mode ≡ x → Goes
   unfolding step Calls.translated probed translated translatedMemory
   by-asked Asked.Unknown is = quiet Answer.Unknown refl refl (rw is) (rw is) (rw is)
-  by-asked Asked.NotServed is = quiet Answer.NotServed refl refl (rw is) (rw is) (rw is)
+  by-asked (Asked.NotServed why) is = quiet (Answer.NotServed why) (not-succeeded why) (not-faulted why) (rw is) (rw is) (rw is)
   by-asked Asked.Form is = quiet Answer.Form refl refl (rw is) (rw is) (rw is)
   by-asked (Asked.Off at) is = quiet (Answer.Done at 0 0) refl refl (rw is) (rw is) (rw is)
   by-asked (Asked.On a) is = by-found a (findCache (wanted s address a) (m .cache)) is refl

@@ -5,7 +5,9 @@ use mathlib.Core.Bool.{cond}
 use mathlib.Core.List.{List}
 use Rattle.word.specs.Bytes.{inside, stored}
 use Rattle.settings.specs.declared.Settings.{Settings}
-use Rattle.settings.specs.Settings.{initial, served}
+use Rattle.settings.specs.declared.Service.{Service}
+use Rattle.settings.specs.declared.Service.the-variants.{Served, NotServed}
+use Rattle.settings.specs.Settings.{initial, judged}
 use Rattle.address.specs.declared.VirtAddr.{VirtAddr}
 use Rattle.address.specs.Address.{canonical, tag}
 use Rattle.walk.specs.declared.Way.{Way}
@@ -75,13 +77,19 @@ storedResult m memory at value =
       memory = stored memory at value;
     }
 
--- what a load is answered, by the settings that it would leave
-abbrev pub loadAnswer : Settings → Answer
-loadAnswer s = cond (served s) done Answer.NotServed
+-- what a load is answered, by what is answered of the settings that it would leave
+abbrev pub loadAnswer : Service → Answer
+loadAnswer Served = done
+loadAnswer (NotServed why) = Answer.NotServed why
+
+-- something new where settings are served, else the old
+abbrev pub ifServed : {A : Type 0} → Service → A → A → A
+ifServed Served new old = new
+ifServed (NotServed why) new old = old
 
 -- "A settings or root load is judged by the settings it would leave; refused, it leaves settings and cache as they were."
 abbrev pub loaded : Machine → Settings → Cache → Stepped
-loaded m s c = record { answer = loadAnswer s; machine = cond (served s) (record { settings = s; cache = c }) m }
+loaded m s c = record { answer = loadAnswer (judged s); machine = ifServed (judged s) (record { settings = s; cache = c }) m }
 
 -- settings with another CR3
 abbrev pub withRoot : Settings → ℕ → Settings
@@ -116,6 +124,6 @@ step m memory (Call.LoadSettings cr0 cr4 efer width) = withMemory memory (settin
 step m memory (Call.DropPage address) = withMemory memory (pageDropped m address)
 step m memory Call.DropAll = withMemory memory (allDropped m)
 
--- "A refused start gives 2 and an empty cache with all registers 0 and M = 40."
+-- "A refused start gives" the number of what is wrong "and an empty cache with all registers 0 and M = 40."
 abbrev pub started : Settings → Stepped
-started s = record { answer = loadAnswer s; machine = record { settings = cond (served s) s initial; cache = emptyCache } }
+started s = record { answer = loadAnswer (judged s); machine = record { settings = ifServed (judged s) s initial; cache = emptyCache } }

@@ -23,7 +23,7 @@ among n (k ∷ ks) = eqb n k || among n ks
 
 -- the numbers with which a call of the machine is refused
 abbrev pub refusals : List ℕ
-refusals = 1 ∷ 2 ∷ 3 ∷ 4 ∷ 5 ∷ []
+refusals = 1 ∷ 2 ∷ 3 ∷ 4 ∷ 5 ∷ 8 ∷ 9 ∷ 10 ∷ []
 
 -- a refusal: any answer but 0
 abbrev pub refused : Answer → Bool

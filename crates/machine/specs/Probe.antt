@@ -25,7 +25,7 @@ probedFound address a Found.Nothing = Walk a
 -- by what the tests find; "With paging off a translation neither reads nor changes the cache."
 abbrev pub probedAsked : Settings → Set → VirtAddr → Asked → Probed
 probedAsked s set address Asked.Unknown = Answered Answer.Unknown
-probedAsked s set address Asked.NotServed = Answered Answer.NotServed
+probedAsked s set address (Asked.NotServed why) = Answered (Answer.NotServed why)
 probedAsked s set address Asked.Form = Answered Answer.Form
 probedAsked s set address (Asked.Off at) = Answered (Answer.Done at 0 0)
 probedAsked s set address (Asked.On a) = probedFound address a (findIn (setIndex (tag address)) (wanted s address a) set)

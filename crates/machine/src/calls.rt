@@ -28,8 +28,8 @@ fn load(before: Machine, settings: Settings, cache: Cache) -> Stepped
             answer: done(),
             machine: Machine { settings, cache },
         },
-        Service::NotServed => Stepped {
-            answer: Answer::NotServed,
+        Service::NotServed(why) => Stepped {
+            answer: Answer::NotServed(why),
             machine: before,
         },
     }

@@ -32,7 +32,7 @@ pub fn probe(settings: Settings, set: Set, address: VirtAddr, access: u64, mode:
 {
     match ask(settings, address, access, mode) {
         Asked::Unknown => Probed::Answered(Answer::Unknown),
-        Asked::NotServed => Probed::Answered(Answer::NotServed),
+        Asked::NotServed(why) => Probed::Answered(Answer::NotServed(why)),
         Asked::Form => Probed::Answered(Answer::Form),
         Asked::Off(at) => Probed::Answered(Answer::Done(at, 0, 0)),
         Asked::On(a) => {

@@ -3,38 +3,56 @@ use Prim.Native.Nat.{ℕ, _/_, _^_, _<_}
 use native.Mathlib.Decide.{decLt}
 use native.Mathlib.Nat.{div-eq-of-lt, div-lt-iff-lt-mul, one-mul}
 use native.Mathlib.Omega.{arith}
-use mathlib.Core.Path.{_≡_, sym, _∙_}
+use mathlib.Core.Path.{_≡_, refl, sym, _∙_}
 use mathlib.Core.Bool.{Bool, true, false, not, _&&_, _||_, cond}
 use borrow.Author.Tests.{lt-ltb, le-ltb, eq-eqb, ne-eqb}
 use lib.Dec.{eqb, ltb}
 use lib.Pow.{pow-pos}
+use Rattle.settings.specs.declared.Settings.{Settings}
+use Rattle.settings.specs.declared.Unserved.the-variants.{Width, Root, Paging, Extension}
 use Rattle.settings.specs.declared.Service.{Service}
 use Rattle.settings.specs.declared.Service.the-variants.{Served, NotServed}
+use Rattle.settings.specs.Settings.{pg, widthServed, rootServed, modeServed, extensionsServed, served, judged, accepts}
 
 -- what the five tests answer
 abbrev pub answer : Bool → Bool → Bool → Bool → Bool → Service
-answer width root pg mode extensions = cond (width && (root && (not pg || (mode && extensions)))) Served NotServed
+answer width root pg mode extensions =
+    cond width (cond root (cond pg (cond mode (cond extensions Served (NotServed Extension)) (NotServed Paging)) Served) (NotServed Root))
+    (NotServed Width)
 
 module _ (width root pg mode extensions : Bool) where
-  pub no-width : width ≡ false → NotServed ≡ answer width root pg mode extensions
+  pub no-width : width ≡ false → NotServed Width ≡ answer width root pg mode extensions
   no-width a = rw a
 
-  pub no-root : width ≡ true → root ≡ false → NotServed ≡ answer width root pg mode extensions
+  pub no-root : width ≡ true → root ≡ false → NotServed Root ≡ answer width root pg mode extensions
   no-root a b = rw (a, b)
 
   pub off : width ≡ true → root ≡ true → pg ≡ false → Served ≡ answer width root pg mode extensions
   off a b c = rw (a, b, c)
 
-  pub no-mode : width ≡ true → root ≡ true → pg ≡ true → mode ≡ false → NotServed ≡ answer width root pg mode extensions
+  pub no-mode : width ≡ true → root ≡ true → pg ≡ true → mode ≡ false → NotServed Paging ≡ answer width root pg mode extensions
   no-mode a b c d = rw (a, b, c, d)
 
   pub no-extensions : width ≡ true → root ≡ true → pg ≡ true → mode ≡ true → extensions ≡ false
-      → NotServed ≡ answer width root pg mode extensions
+      → NotServed Extension ≡ answer width root pg mode extensions
   no-extensions a b c d e = rw (a, b, c, d, e)
 
   pub on : width ≡ true → root ≡ true → pg ≡ true → mode ≡ true → extensions ≡ true
       → Served ≡ answer width root pg mode extensions
   on a b c d e = rw (a, b, c, d, e)
+
+-- a record is served exactly where no test refuses it
+pub served-judged : (s : Settings) → served s ≡ accepts (judged s)
+served-judged s = go (widthServed s) (rootServed s) (pg s) (modeServed s) (extensionsServed s)
+  where
+    go : (width root pg mode extensions : Bool)
+        → (width && (root && (not pg || (mode && extensions)))) ≡ accepts (answer width root pg mode extensions)
+    go true true true true true = refl
+    go true true true true false = refl
+    go true true true false extensions = refl
+    go true true false mode extensions = refl
+    go true false pg mode extensions = refl
+    go false root pg mode extensions = refl
 
 -- a number has nothing from bit k on exactly where it is below 2^k
 pub shifted-out : (n k : ℕ) → eqb (n / 2 ^ k) 0 ≡ ltb n (2 ^ k)

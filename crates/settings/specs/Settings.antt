@@ -1,10 +1,12 @@
 -- "Settings": the record's named bits, what is served, the root.
-use Prim.Native.Nat.{_*_, _/_, _^_}
-use mathlib.Core.Bool.{Bool, not, _&&_, _||_, cond}
+use Prim.Native.Nat.{ℕ, _*_, _/_, _^_}
+use mathlib.Core.Bool.{Bool, true, false, not, _&&_, _||_, cond}
 use lib.Dec.{eqb, leb, ltb}
 use Rattle.word.specs.Bits.{bit, field}
 use Rattle.address.specs.declared.PhysAddr.{PhysAddr}
 use Rattle.settings.specs.declared.Settings.{Settings}
+use Rattle.settings.specs.declared.Unserved.{Unserved}
+use Rattle.settings.specs.declared.Unserved.the-variants.{Width, Root, Paging, Extension}
 use Rattle.settings.specs.declared.Service.{Service}
 use Rattle.settings.specs.declared.Service.the-variants.{Served, NotServed}
 
@@ -54,9 +56,25 @@ extensionsServed s = not (bit (s .cr4) 12) && (not (bit (s .cr4) 17) && eqb (fie
 abbrev pub served : Settings → Bool
 served s = widthServed s && (rootServed s && (not (pg s) || (modeServed s && extensionsServed s)))
 
--- what is answered of a settings record: served, or answer 2, "settings not served"
+-- what is answered of a settings record, "in this order": "2 width, 8 root too large for the width, 9 paging on without PE, PAE or LME, 10 an extension bit not served"
 abbrev pub judged : Settings → Service
-judged s = cond (served s) Served NotServed
+judged s =
+    cond (widthServed s)
+    (cond (rootServed s)
+    (cond (pg s) (cond (modeServed s) (cond (extensionsServed s) Served (NotServed Extension)) (NotServed Paging)) Served) (NotServed Root))
+    (NotServed Width)
+
+-- the number of each
+abbrev pub number : Unserved → ℕ
+number Width = 2
+number Root = 8
+number Paging = 9
+number Extension = 10
+
+-- a record that is served
+abbrev pub accepts : Service → Bool
+accepts Served = true
+accepts (NotServed why) = false
 
 -- "The low 12 bits of CR3 do not count; the rest is the root."
 abbrev pub root : Settings → PhysAddr

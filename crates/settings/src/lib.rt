@@ -15,10 +15,30 @@ pub struct Settings {
     pub width: u64,
 }
 
+// What is wrong with a settings record that is not served: the width, the root for it, paging on without PE, PAE or LME, an extension bit.
+pub enum Unserved {
+    Width,
+    Root,
+    Paging,
+    Extension,
+}
+
 // Whether a settings record is served.
 pub enum Service {
     Served,
-    NotServed,
+    NotServed(Unserved),
+}
+
+// The number with which it is refused.
+pub fn number(unserved: Unserved) -> u64
+    ensures { λ r. ⌜ r ≡ spec.number unserved ⌝ }
+{
+    match unserved {
+        Unserved::Width => 2,
+        Unserved::Root => 8,
+        Unserved::Paging => 9,
+        Unserved::Extension => 10,
+    }
 }
 
 impl Settings {
@@ -123,24 +143,24 @@ impl Settings {
         !five_levels & (!spaces & (later == 0))
     }
 
-    // What is served, tested in the order width, root, mode, extensions.
+    // The first test that fails, in the order width, root, mode, extensions.
     pub fn judge(self) -> Service
         ensures { λ r. ⌜ r ≡ spec.judged self ⌝ }
     {
         if !self.width_served() {
-            return Service::NotServed;
+            return Service::NotServed(Unserved::Width);
         }
         if !self.root_served() {
-            return Service::NotServed;
+            return Service::NotServed(Unserved::Root);
         }
         if !self.pg() {
             return Service::Served;
         }
         if !self.mode_served() {
-            return Service::NotServed;
+            return Service::NotServed(Unserved::Paging);
         }
         if !self.extensions_served() {
-            return Service::NotServed;
+            return Service::NotServed(Unserved::Extension);
         }
         Service::Served
     }

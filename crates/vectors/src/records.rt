@@ -1,8 +1,10 @@
 // One settings record: what is served, and the root.
+use crate::print::decimal;
 use crate::print::hex;
 use crate::print::text;
 use settings::Service;
 use settings::Settings;
+use settings::number;
 
 // A settings record.
 pub(crate) fn record(cr0: u64, cr3: u64, cr4: u64, efer: u64, width: u64) -> Settings {
@@ -25,13 +27,20 @@ pub(crate) fn with_cr4(cr4: u64) -> Settings {
     record(0x8001_0001, 0x1000, cr4, 0x900, 40)
 }
 
-// Prints whether a record is served.
+// Prints the number with which a record is refused.
+fn refused(number: u64) {
+    text(b": ");
+    decimal(number);
+    text(b"\n");
+}
+
+// Prints whether a record is served, or its number.
 fn judge(words: &[u8], settings: Settings) {
     text(words);
     let service = settings.judge();
     match service {
         Service::Served => text(b": served\n"),
-        Service::NotServed => text(b": not served\n"),
+        Service::NotServed(why) => refused(number(why)),
     }
 }
 
@@ -62,6 +71,19 @@ fn registers() {
     judge(b"PE clear", record(0x8001_0000, 0x1000, 0x20, 0x900, 40));
     judge(b"PAE clear", with_cr4(0));
     judge(b"LME clear", record(0x8001_0001, 0x1000, 0x20, 0x800, 40));
+    judge(
+        b"M 64, CR3 2^63",
+        record(0x8001_0001, 1 << 63, 0x20, 0x900, 64),
+    );
+    judge(b"M 31, CR3 2^31", record(0, 1 << 31, 0, 0, 31));
+    judge(
+        b"M 32, CR3 2^32, PE clear",
+        record(0x8001_0000, 1 << 32, 0x20, 0x900, 32),
+    );
+    judge(
+        b"PE clear, CR4 bit 20 set",
+        record(0x8001_0000, 0x1000, 0x10_0020, 0x900, 40),
+    );
 }
 
 // "and CR4 bits 12, 17 and 20 to 24 clear. With PG = 0 no other bit is tested."

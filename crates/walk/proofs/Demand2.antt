@@ -21,6 +21,7 @@ use Rattle.walk.specs.Demand2.{first, stops, lacks, allInside, accessNum
 use Rattle.walk.specs.Path.{Path, End, Entry, page, entries, endOf}
 use Rattle.walk.specs.Translate.{asked, fresh, freshMemory, translated, translatedMemory}
 use Rattle.walk.specs.Walk.{ended, walkPath}
+use Rattle.walk.proofs.Asking.{served-is}
 use Rattle.walk.proofs.Codes.{missing-code, reserved-code, rights-code}
 use Rattle.walk.proofs.Marking.{marks-bit, due-access}
 use Rattle.walk.proofs.Sound.{Sound, SoundEnd, sound, stopping, first-stop, at-end, at-most, at-least, last-read, follows}
@@ -143,5 +144,5 @@ way-of Fetch false = refl
 pub walks : Walks
 unfolding translated translatedMemory
 walks s address a memory on served canonical =
-    let tested : asked s address (accessNumber (a .access)) (modeNumber (a .user)) ≡ Asked.On a = rw (known-way (a .access) (a .user), served, on, canonical) (ap Asked.On (way-of (a .access) (a .user))) in
+    let tested : asked s address (accessNumber (a .access)) (modeNumber (a .user)) ≡ Asked.On a = rw (known-way (a .access) (a .user), served-is s served, on, canonical) (ap Asked.On (way-of (a .access) (a .user))) in
     (ap (fresh s address memory) tested, ap (freshMemory s address memory) tested)

@@ -191,7 +191,7 @@ module _ (s : Settings) (va : VirtAddr) (a : Way) (m : List ℕ) (p : Path) wher
   abbrev pub count : Answer → ℕ
   count (Answer.Done at size n) = n
   count Answer.Unknown = 0
-  count Answer.NotServed = 0
+  count (Answer.NotServed why) = 0
   count Answer.Form = 0
   count (Answer.Outside at l n) = n
   count (Answer.Fault c l n) = n

@@ -5,7 +5,9 @@ use mathlib.Core.Bool.{Bool, true, false, cond}
 use mathlib.Core.List.{List}
 use lib.Dec.{ltb}
 use Rattle.settings.specs.declared.Settings.{Settings}
-use Rattle.settings.specs.Settings.{served, pg}
+use Rattle.settings.specs.declared.Service.{Service}
+use Rattle.settings.specs.declared.Service.the-variants.{Served, NotServed}
+use Rattle.settings.specs.Settings.{judged, number, pg}
 use Rattle.address.specs.declared.VirtAddr.{VirtAddr}
 use Rattle.address.specs.Address.{canonical, offset, plus}
 use Rattle.walk.specs.declared.Way.{Way}
@@ -29,11 +31,16 @@ askedOff address = cond (ltb (address .0) (2 ^ 32)) (Asked.Off (record { 0 = add
 abbrev pub askedOn : VirtAddr → Way → Asked
 askedOn address a = cond (canonical address) (Asked.On a) Asked.Form
 
--- the tests 1, 2 and 3, in this order
+-- what settings refuse, or what is found after them
+abbrev pub askedOf : Service → Asked → Asked
+askedOf Served found = found
+askedOf (NotServed why) found = Asked.NotServed why
+
+-- the tests 1, those of the settings and 3, in this order
 abbrev pub asked : Settings → VirtAddr → ℕ → ℕ → Asked
 asked s address access mode =
     cond (known access mode)
-    (cond (served s) (cond (pg s) (askedOn address (wayOf access mode)) (askedOff address)) Asked.NotServed)
+    (askedOf (judged s) (cond (pg s) (askedOn address (wayOf access mode)) (askedOff address)))
     Asked.Unknown
 
 -- "The level is that of the missing or reserved entry; for rights, the highest level whose own entry lacks any needed right"
@@ -73,7 +80,7 @@ answered s address a (Outside at l n) = Answer.Outside at l n
 -- what a question is answered by a fresh walk: size "0 when paging is off", entries read "0 where no walk was made"
 abbrev pub fresh : Settings → VirtAddr → List ℕ → Asked → Answer
 fresh s address memory Asked.Unknown = Answer.Unknown
-fresh s address memory Asked.NotServed = Answer.NotServed
+fresh s address memory (Asked.NotServed why) = Answer.NotServed why
 fresh s address memory Asked.Form = Answer.Form
 fresh s address memory (Asked.Off at) = Answer.Done at 0 0
 fresh s address memory (Asked.On a) = answered s address a (walkAnswer s address a memory)
@@ -81,7 +88,7 @@ fresh s address memory (Asked.On a) = answered s address a (walkAnswer s address
 -- memory after a fresh walk, if one is made
 abbrev pub freshMemory : Settings → VirtAddr → List ℕ → Asked → List ℕ
 freshMemory s address memory Asked.Unknown = memory
-freshMemory s address memory Asked.NotServed = memory
+freshMemory s address memory (Asked.NotServed why) = memory
 freshMemory s address memory Asked.Form = memory
 freshMemory s address memory (Asked.Off at) = memory
 freshMemory s address memory (Asked.On a) = walkMemory s address a memory
@@ -107,7 +114,7 @@ refusal number = record { answer = number; value = 0; detail = 0; reads = 0 }
 abbrev pub numbers : Answer → Numbers
 numbers (Answer.Done at size n) = record { answer = 0; value = at .0; detail = size; reads = n }
 numbers Answer.Unknown = refusal 1
-numbers Answer.NotServed = refusal 2
+numbers (Answer.NotServed why) = refusal (number why)
 numbers Answer.Form = refusal 3
 numbers (Answer.Outside at l n) = record { answer = 4; value = at .0; detail = l; reads = n }
 numbers (Answer.Fault c l n) = record { answer = 5; value = c; detail = l; reads = n }

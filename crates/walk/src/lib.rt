@@ -1,5 +1,6 @@
 // The four-level walk, and one uncached translation.
 use address::PhysAddr;
+use settings::Unserved;
 
 mod descend;
 pub mod translate;
@@ -45,7 +46,7 @@ pub enum Walked {
 // What the tests before a walk find.
 pub enum Asked {
     Unknown,
-    NotServed,
+    NotServed(Unserved),
     Form,
     Off(PhysAddr),
     On(Way),
@@ -55,7 +56,7 @@ pub enum Asked {
 pub enum Answer {
     Done(PhysAddr, u64, u64),
     Unknown,
-    NotServed,
+    NotServed(Unserved),
     Form,
     Outside(PhysAddr, u64, u64),
     Fault(u64, u64, u64),

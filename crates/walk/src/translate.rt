@@ -12,6 +12,7 @@ use address::PhysAddr;
 use address::VirtAddr;
 use settings::Service;
 use settings::Settings;
+use settings::number;
 ghost use mathlib.Core.Bool.{cond};
 ghost use mathlib.Core.Path.{_≡_};
 ghost use Prim.Native.Nat.{_≤_};
@@ -30,7 +31,7 @@ pub fn ask(settings: Settings, address: VirtAddr, access: u64, mode: u64) -> Ask
     }
     let service = settings.judge();
     match service {
-        Service::NotServed => Asked::NotServed,
+        Service::NotServed(why) => Asked::NotServed(why),
         Service::Served => {
             if settings.pg() {
                 ask_on(address, access, mode)
@@ -135,7 +136,7 @@ pub fn translate(
     let asked = ask(settings, address, access, mode);
     match asked {
         Asked::Unknown => Answer::Unknown,
-        Asked::NotServed => Answer::NotServed,
+        Asked::NotServed(why) => Answer::NotServed(why),
         Asked::Form => Answer::Form,
         Asked::Off(at) => Answer::Done(at, 0, 0),
         Asked::On(way) => {
@@ -157,7 +158,7 @@ pub fn numbers(answer: Answer) -> Numbers
             reads,
         },
         Answer::Unknown => refusal(1),
-        Answer::NotServed => refusal(2),
+        Answer::NotServed(why) => refusal(number(why)),
         Answer::Form => refusal(3),
         Answer::Outside(at, level, reads) => Numbers {
             answer: 4,

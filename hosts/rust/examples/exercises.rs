@@ -4,7 +4,8 @@
 use std::process::ExitCode;
 
 use aalbrett::{byte, walk, Answer, Question, Settings};
-use aalbrett::{FETCH, FORM, NOT_SERVED, READ, SUPERVISOR, UNKNOWN, USER, WRITE};
+use aalbrett::{EXTENSION, FORM, ROOT, UNKNOWN, WIDTH};
+use aalbrett::{FETCH, READ, SUPERVISOR, USER, WRITE};
 
 const TABLES: [(usize, u64); 13] = [
     (0x1000, 0x2007),
@@ -39,6 +40,18 @@ const EXECUTABLE: Settings = Settings {
     ..PAGING
 };
 const NO_PAGING: Settings = Settings { cr0: 0, ..PAGING };
+const LARGE_ROOT: Settings = Settings {
+    cr3: 1 << 40,
+    ..PAGING
+};
+const UNPREPARED: Settings = Settings {
+    cr0: 0x8001_0000,
+    ..PAGING
+};
+const EXTENDED: Settings = Settings {
+    cr4: 0x10_0020,
+    ..PAGING
+};
 
 /// A walk with its known answer and the entries that it changes.
 struct Exercise {
@@ -114,7 +127,7 @@ const HIGH: [(usize, u64); 4] = [
     (0x4040, 0x100_0000_8027),
 ];
 
-const EXERCISES: [Exercise; 24] = [
+const EXERCISES: [Exercise; 27] = [
     exercise(PAGING, (0x40_3abc, READ, USER), done(0x5abc, 1, 4), &SMALL),
     exercise(
         PAGING,
@@ -184,7 +197,7 @@ const EXERCISES: [Exercise; 24] = [
     exercise(
         width(31),
         (0x40_3abc, READ, USER),
-        Answer::Refused(NOT_SERVED),
+        Answer::Refused(WIDTH),
         &[],
     ),
     exercise(
@@ -202,7 +215,25 @@ const EXERCISES: [Exercise; 24] = [
     exercise(
         width(53),
         (0x40_3abc, READ, USER),
-        Answer::Refused(NOT_SERVED),
+        Answer::Refused(WIDTH),
+        &[],
+    ),
+    exercise(
+        LARGE_ROOT,
+        (0x40_3abc, READ, USER),
+        Answer::Refused(ROOT),
+        &[],
+    ),
+    exercise(
+        UNPREPARED,
+        (0x40_3abc, READ, USER),
+        Answer::Refused(aalbrett::PAGING),
+        &[],
+    ),
+    exercise(
+        EXTENDED,
+        (0x40_3abc, READ, USER),
+        Answer::Refused(EXTENSION),
         &[],
     ),
     exercise(PAGING, (0x40_3abc, 3, USER), Answer::Refused(UNKNOWN), &[]),

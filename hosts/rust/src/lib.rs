@@ -27,12 +27,18 @@ pub const USER: u64 = 1;
 
 /// Refused: access, mode or card kind unknown.
 pub const UNKNOWN: u64 = 1;
-/// Refused: settings not served.
-pub const NOT_SERVED: u64 = 2;
+/// Refused: the width M is not from 32 to 52.
+pub const WIDTH: u64 = 2;
 /// Refused: the address is not canonical or, with paging off, not below 2^32.
 pub const FORM: u64 = 3;
 /// Refused: the card is not of 32 bytes.
 pub const CARD_SHORT: u64 = 6;
+/// Refused: the root in CR3 is not below 2^M.
+pub const ROOT: u64 = 8;
+/// Refused: paging on without PE, PAE or LME.
+pub const PAGING: u64 = 9;
+/// Refused: paging on with a bit of CR4 that is not served, of 12, 17 and 20 to 24.
+pub const EXTENSION: u64 = 10;
 
 /// What is asked: a virtual address, how it is used and by whom.
 #[derive(Clone, Copy, Debug, PartialEq, Eq)]
@@ -52,6 +58,6 @@ pub enum Answer {
     Outside { entry: u64, level: u64, reads: u64 },
     /// A page fault with its error code and the level of the entry at fault.
     Fault { code: u64, level: u64, reads: u64 },
-    /// Refused before a walk: [`UNKNOWN`], [`NOT_SERVED`], [`FORM`] or [`CARD_SHORT`].
+    /// Refused before a walk: [`UNKNOWN`], [`WIDTH`], [`ROOT`], [`PAGING`], [`EXTENSION`], [`FORM`] or [`CARD_SHORT`].
     Refused(u64),
 }

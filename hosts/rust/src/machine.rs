@@ -12,8 +12,8 @@ pub struct Machine {
 }
 
 impl Machine {
-    /// A machine with these settings that remembers nothing, and its answer: done, or refused with
-    /// [`NOT_SERVED`](crate::NOT_SERVED) and a machine with all registers 0 and M = 40.
+    /// A machine with these settings that remembers nothing, and its answer: done, or refused with the
+    /// number of the setting that is wrong and a machine with all registers 0 and M = 40.
     pub fn start(settings: Settings) -> (Answer, Machine) {
         let mut record = raw::Machine::default();
         let number = raw::start(&mut record, &settings);
@@ -31,7 +31,8 @@ impl Machine {
 #[cfg(test)]
 mod tests {
     use super::Machine;
-    use crate::{Answer, Card, Place, Question, Settings, CARD_SHORT, NOT_SERVED, USER, WRITE};
+    use crate::{Answer, Card, Place, Question, Settings, CARD_SHORT, USER, WRITE};
+    use crate::{EXTENSION, PAGING, ROOT, WIDTH};
 
     /// Paging on, PGE set, 40 physical bits.
     const SETTINGS: Settings = Settings {
@@ -112,7 +113,7 @@ mod tests {
             ..SETTINGS
         };
         let (answer, mut machine) = Machine::start(narrow);
-        assert_eq!(answer, Answer::Refused(NOT_SERVED));
+        assert_eq!(answer, Answer::Refused(WIDTH));
         assert_eq!(
             (machine.record.settings.cr3, machine.record.settings.width),
             (0, 40)
@@ -140,5 +141,43 @@ mod tests {
             ..SETTINGS
         };
         assert_eq!(machine.record.settings, loaded);
+    }
+
+    /// Starts and both loads tell which setting is wrong, and loads leave all as it was.
+    #[test]
+    fn the_wrong_setting_is_told() {
+        let narrow = Settings {
+            width: 31,
+            ..SETTINGS
+        };
+        let root = Settings {
+            cr3: 1 << 40,
+            ..SETTINGS
+        };
+        let paging = Settings {
+            efer: 0,
+            ..SETTINGS
+        };
+        let extension = Settings {
+            cr4: 0x10_0020,
+            ..SETTINGS
+        };
+        let cases = [
+            (narrow, WIDTH),
+            (root, ROOT),
+            (paging, PAGING),
+            (extension, EXTENSION),
+        ];
+        for (settings, number) in cases {
+            let refused = Answer::Refused(number);
+            let (answer, mut machine) = Machine::start(settings);
+            assert_eq!(answer, refused);
+            machine.record.settings = settings;
+            let before = machine;
+            for card in [Card::load_root(settings.cr3), Card::load_settings(settings)] {
+                assert_eq!(machine.step(&mut [], &card.0), refused);
+                assert_eq!(machine, before);
+            }
+        }
     }
 }

@@ -3,6 +3,7 @@
 use std::fmt::{Display, Formatter, Result};
 
 use crate::{Answer, Question, FETCH, READ, SUPERVISOR, USER, WRITE};
+use crate::{CARD_SHORT, EXTENSION, FORM, PAGING, ROOT, UNKNOWN, WIDTH};
 
 impl Display for Question {
     /// Mode, access and address.
@@ -52,7 +53,40 @@ impl Display for Answer {
                     "page fault, code {code}, level {level}, entries read: {reads}"
                 )
             }
-            Answer::Refused(number) => write!(text, "refused with {number}"),
+            Answer::Refused(number) => write!(text, "refused with {number}, {}", meaning(*number)),
+        }
+    }
+}
+
+/// What a refusal's number says.
+fn meaning(number: u64) -> &'static str {
+    match number {
+        UNKNOWN => "access, mode or card kind unknown",
+        WIDTH => "width not from 32 to 52",
+        ROOT => "root too large for the width",
+        PAGING => "paging on without PE, PAE or LME",
+        EXTENSION => "an extension bit not served",
+        FORM => "address form",
+        CARD_SHORT => "card short",
+        _ => "number unknown",
+    }
+}
+
+#[cfg(test)]
+mod tests {
+    use crate::{Answer, EXTENSION, PAGING, ROOT, WIDTH};
+
+    /// Each wrong setting has a text of its own.
+    #[test]
+    fn each_wrong_setting_is_named() {
+        let texts = [
+            (WIDTH, "refused with 2, width not from 32 to 52"),
+            (ROOT, "refused with 8, root too large for the width"),
+            (PAGING, "refused with 9, paging on without PE, PAE or LME"),
+            (EXTENSION, "refused with 10, an extension bit not served"),
+        ];
+        for (number, text) in texts {
+            assert_eq!(Answer::Refused(number).to_string(), text);
         }
     }
 }

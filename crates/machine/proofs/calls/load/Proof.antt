@@ -14,15 +14,19 @@ enum-told c = search needs
 done-requires : tie.Need-done-requires
 done-requires c κs = search needs
 
-enum-told-2 : tie.Need-enum-told-2
-enum-told-2 c = search needs
+enum-known-why : tie.Need-enum-known-why
+enum-known-why c = search needs
 
 returns : tie.Need-returns
-returns c = let a = c .before .before .before .before .args in load-served (a .before) (a .settings) (a .cache) (c .done .result) (c .done .ensures) (sym (c .before .before .before .judge .ensures) ∙ c .before .enum-told .given .1)
+returns c =
+    let a = c .before .before .before .before .args in
+    load-served (a .before) (a .settings) (a .cache) (c .done .result) (c .done .ensures) (sym (c .before .before .before .judge .ensures) ∙ c .before .enum-told .given .1)
 
 returns-2 : tie.Need-returns-2
-returns-2 c = let a = c .before .before .before .args in load-refused (a .before) (a .settings) (a .cache) (sym (c .before .before .judge .ensures) ∙ c .enum-told2 .given .1)
+returns-2 c =
+    let a = c .before .before .before .before .args in
+    load-refused (a .before) (a .settings) (a .cache) (c .before .why .given .0 .0) (sym (c .before .before .before .judge .ensures) ∙ c .before .why .given .1)
 
 pub load-spec : {M : Type 1} → statement M
 load-spec =
-    tie.close (tie.spec judge-requires enum-told done-requires enum-told-2 returns returns-2)
+    tie.close (tie.spec judge-requires enum-told done-requires enum-known-why returns returns-2)

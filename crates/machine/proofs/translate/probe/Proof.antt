@@ -13,11 +13,11 @@ ask-requires c κs = search needs
 enum-told : tie.Need-enum-told
 enum-told c = search needs
 
+enum-known-why : tie.Need-enum-known-why
+enum-known-why c = search needs
+
 enum-told-2 : tie.Need-enum-told-2
 enum-told-2 c = search needs
-
-enum-told-3 : tie.Need-enum-told-3
-enum-told-3 c = search needs
 
 enum-known-at : tie.Need-enum-known-at
 enum-known-at c = search needs
@@ -43,8 +43,8 @@ enum-known-place c = search needs
 hit-requires : tie.Need-hit-requires
 hit-requires c κs = search needs
 
-enum-told-4 : tie.Need-enum-told-4
-enum-told-4 c = search needs
+enum-told-3 : tie.Need-enum-told-3
+enum-told-3 c = search needs
 
 returns : tie.Need-returns
 unfolding probed
@@ -55,14 +55,14 @@ returns c =
 returns-2 : tie.Need-returns-2
 unfolding probed
 returns-2 c =
-    let a = c .before .before .before .args in
-    sym (ap (probedAsked (a .settings) (a .set) (a .address)) (sym (c .before .before .ask .ensures) ∙ c .enum-told2 .given .1))
+    let a = c .before .before .before .before .args in
+    sym (ap (probedAsked (a .settings) (a .set) (a .address)) (sym (c .before .before .before .ask .ensures) ∙ c .before .why .given .1))
 
 returns-3 : tie.Need-returns-3
 unfolding probed
 returns-3 c =
     let a = c .before .before .before .args in
-    sym (ap (probedAsked (a .settings) (a .set) (a .address)) (sym (c .before .before .ask .ensures) ∙ c .enum-told3 .given .1))
+    sym (ap (probedAsked (a .settings) (a .set) (a .address)) (sym (c .before .before .ask .ensures) ∙ c .enum-told2 .given .1))
 
 returns-4 : tie.Need-returns-4
 unfolding probed
@@ -74,8 +74,7 @@ returns-5 : tie.Need-returns-5
 unfolding probed
 returns-5 c =
     let s = c .before .before .before .before .before .before .before .before .before .before .before .before .args in
-    let found = find-law (s .settings) (s .set) (s .address) (c .before .before .before .before .before .before .before .before .before .a .given .0 .0) (c .before .before .before .before .before .before .tag .result) (c .before .before .before .before .before .before .tag .ensures) (c .before .before .before .before .before .set-of .result) (c .before .before .before .before .before .set-of .ensures)
-    (c .before .before .before .before .before .before .before .wanted .result) (c .before .before .before .before .before .before .before .wanted .ensures) (c .before .before .before .before .find .result) (c .before .before .before .before .find .ensures) in
+    let found = find-law (s .settings) (s .set) (s .address) (c .before .before .before .before .before .before .before .before .before .a .given .0 .0) (c .before .before .before .before .before .before .tag .result) (c .before .before .before .before .before .before .tag .ensures) (c .before .before .before .before .before .set-of .result) (c .before .before .before .before .before .set-of .ensures) (c .before .before .before .before .before .before .before .wanted .result) (c .before .before .before .before .before .before .before .wanted .ensures) (c .before .before .before .before .find .result) (c .before .before .before .before .find .ensures) in
     ap Answered (c .hit .ensures) ∙ sym (ap (probedAsked (s .settings) (s .set) (s .address)) (sym (c .before .before .before .before .before .before .before .before .before .before .before .ask .ensures) ∙ c .before .before .before .before .before .before .before .before .before .a .given .1)
     ∙ ap (probedFound (s .address) (c .before .before .before .before .before .before .before .before .before .a .given .0 .0)) (sym found ∙ c .before .before .place .given .1))
 
@@ -83,10 +82,9 @@ returns-6 : tie.Need-returns-6
 unfolding probed
 returns-6 c =
     let s = c .before .before .before .before .before .before .before .before .before .before .args in
-    let found = find-law (s .settings) (s .set) (s .address) (c .before .before .before .before .before .before .before .a .given .0 .0) (c .before .before .before .before .tag .result) (c .before .before .before .before .tag .ensures) (c .before .before .before .set-of .result) (c .before .before .before .set-of .ensures)
-    (c .before .before .before .before .before .wanted .result) (c .before .before .before .before .before .wanted .ensures) (c .before .before .find .result) (c .before .before .find .ensures) in
+    let found = find-law (s .settings) (s .set) (s .address) (c .before .before .before .before .before .before .before .a .given .0 .0) (c .before .before .before .before .tag .result) (c .before .before .before .before .tag .ensures) (c .before .before .before .set-of .result) (c .before .before .before .set-of .ensures) (c .before .before .before .before .before .wanted .result) (c .before .before .before .before .before .wanted .ensures) (c .before .before .find .result) (c .before .before .find .ensures) in
     sym (ap (probedAsked (s .settings) (s .set) (s .address)) (sym (c .before .before .before .before .before .before .before .before .before .ask .ensures) ∙ c .before .before .before .before .before .before .before .a .given .1)
-    ∙ ap (probedFound (s .address) (c .before .before .before .before .before .before .before .a .given .0 .0)) (sym found ∙ c .enum-told4 .given .1))
+    ∙ ap (probedFound (s .address) (c .before .before .before .before .before .before .before .a .given .0 .0)) (sym found ∙ c .enum-told3 .given .1))
 
 pub probe-spec : {M : Type 1} → statement M
 probe-spec =
@@ -94,8 +92,8 @@ probe-spec =
     (tie.spec
     ask-requires
     enum-told
+    enum-known-why
     enum-told-2
-    enum-told-3
     enum-known-at
     enum-known-a
     wanted-requires
@@ -104,7 +102,7 @@ probe-spec =
     find-requires
     enum-known-place
     hit-requires
-    enum-told-4
+    enum-told-3
     returns
     returns-2
     returns-3

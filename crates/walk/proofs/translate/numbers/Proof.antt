@@ -12,23 +12,26 @@ enum-told c = search needs
 refusal-requires : tie.Need-refusal-requires
 refusal-requires c κs = search needs
 
-enum-told-2 : tie.Need-enum-told-2
-enum-told-2 c = search needs
+enum-known-answer-2 : tie.Need-enum-known-answer-2
+enum-known-answer-2 c = search needs
+
+number-requires : tie.Need-number-requires
+number-requires c κs = search needs
 
 refusal-requires-2 : tie.Need-refusal-requires-2
 refusal-requires-2 c κs = search needs
 
-enum-told-3 : tie.Need-enum-told-3
-enum-told-3 c = search needs
+enum-told-2 : tie.Need-enum-told-2
+enum-told-2 c = search needs
 
 refusal-requires-3 : tie.Need-refusal-requires-3
 refusal-requires-3 c κs = search needs
 
-enum-known-answer-2 : tie.Need-enum-known-answer-2
-enum-known-answer-2 c = search needs
-
 enum-known-answer-3 : tie.Need-enum-known-answer-3
 enum-known-answer-3 c = search needs
+
+enum-known-answer-4 : tie.Need-enum-known-answer-4
+enum-known-answer-4 c = search needs
 
 returns : tie.Need-returns
 returns c = rw (c .before .answer .given .1)
@@ -37,16 +40,16 @@ returns-2 : tie.Need-returns-2
 returns-2 c = rw (c .before .enum-told .given .1) (c .refusal .ensures)
 
 returns-3 : tie.Need-returns-3
-returns-3 c = rw (c .before .enum-told2 .given .1) (c .refusal2 .ensures)
+returns-3 c = rw (c .before .before .before .answer2 .given .1, c .refusal2 .ensures, c .before .number .ensures)
 
 returns-4 : tie.Need-returns-4
-returns-4 c = rw (c .before .enum-told3 .given .1) (c .refusal3 .ensures)
+returns-4 c = rw (c .before .enum-told2 .given .1) (c .refusal3 .ensures)
 
 returns-5 : tie.Need-returns-5
-returns-5 c = rw (c .before .answer2 .given .1)
+returns-5 c = rw (c .before .answer3 .given .1)
 
 returns-6 : tie.Need-returns-6
-returns-6 c = rw (c .before .answer3 .given .1)
+returns-6 c = rw (c .before .answer4 .given .1)
 
 pub numbers-spec : {M : Type 1} → statement M
 numbers-spec =
@@ -55,12 +58,13 @@ numbers-spec =
     enum-known-answer
     enum-told
     refusal-requires
-    enum-told-2
-    refusal-requires-2
-    enum-told-3
-    refusal-requires-3
     enum-known-answer-2
+    number-requires
+    refusal-requires-2
+    enum-told-2
+    refusal-requires-3
     enum-known-answer-3
+    enum-known-answer-4
     returns
     returns-2
     returns-3

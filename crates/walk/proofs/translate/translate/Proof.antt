@@ -11,17 +11,17 @@ ask-requires c κs = search needs
 enum-told : tie.Need-enum-told
 enum-told c = search needs
 
-enum-told-2 : tie.Need-enum-told-2
-enum-told-2 c = search needs
-
-enum-told-3 : tie.Need-enum-told-3
-enum-told-3 c = search needs
-
 enum-known-asked : tie.Need-enum-known-asked
 enum-known-asked c = search needs
 
+enum-told-2 : tie.Need-enum-told-2
+enum-told-2 c = search needs
+
 enum-known-asked-2 : tie.Need-enum-known-asked-2
 enum-known-asked-2 c = search needs
+
+enum-known-asked-3 : tie.Need-enum-known-asked-3
+enum-known-asked-3 c = search needs
 
 walk-requires : tie.Need-walk-requires
 walk-requires c κs = search needs
@@ -39,22 +39,22 @@ returns c =
 returns-2 : tie.Need-returns-2
 unfolding translated translatedMemory
 returns-2 c =
-    let a = c .before .before .before .before .args in
-    let told = sym (c .before .before .ask .ensures) ∙ c .enum-told2 .given .1 in
+    let a = c .before .before .before .before .before .args in
+    let told = sym (c .before .before .before .ask .ensures) ∙ c .before .asked .given .1 in
     (sym (ap (fresh (a .settings) (a .address) (a .memory .now)) told), sym (ap (freshMemory (a .settings) (a .address) (a .memory .now)) told))
 
 returns-3 : tie.Need-returns-3
 unfolding translated translatedMemory
 returns-3 c =
     let a = c .before .before .before .before .args in
-    let told = sym (c .before .before .ask .ensures) ∙ c .enum-told3 .given .1 in
+    let told = sym (c .before .before .ask .ensures) ∙ c .enum-told2 .given .1 in
     (sym (ap (fresh (a .settings) (a .address) (a .memory .now)) told), sym (ap (freshMemory (a .settings) (a .address) (a .memory .now)) told))
 
 returns-4 : tie.Need-returns-4
 unfolding translated translatedMemory
 returns-4 c =
     let a = c .before .before .before .before .before .args in
-    let told = sym (c .before .before .before .ask .ensures) ∙ c .before .asked .given .1 in
+    let told = sym (c .before .before .before .ask .ensures) ∙ c .before .asked2 .given .1 in
     (sym (ap (fresh (a .settings) (a .address) (a .memory .now)) told), sym (ap (freshMemory (a .settings) (a .address) (a .memory .now)) told))
 
 same-length : tie.Need-same-length
@@ -64,8 +64,8 @@ returns-5 : tie.Need-returns-5
 unfolding translated translatedMemory
 returns-5 c =
     let a = c .before .before .before .before .before .before .before .before .before .before .args in
-    let told = sym (c .before .before .before .before .before .before .before .before .ask .ensures) ∙ c .before .before .before .before .before .before .asked2 .given .1 in
-    let how = c .before .before .before .before .before .before .asked2 .given .0 .0 in (
+    let told = sym (c .before .before .before .before .before .before .before .before .ask .ensures) ∙ c .before .before .before .before .before .before .asked3 .given .1 in
+    let how = c .before .before .before .before .before .before .asked3 .given .0 .0 in (
       c .answer .ensures
           ∙ ap (answered (a .settings) (a .address) how) (c .before .before .before .walk .ensures .0)
           ∙ sym (ap (fresh (a .settings) (a .address) (a .memory .now)) told),
@@ -78,10 +78,10 @@ translate-spec =
     (tie.spec
     ask-requires
     enum-told
-    enum-told-2
-    enum-told-3
     enum-known-asked
+    enum-told-2
     enum-known-asked-2
+    enum-known-asked-3
     walk-requires
     answer-requires
     returns
