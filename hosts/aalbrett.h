@@ -144,7 +144,9 @@ struct aalbrett_settings {
 };
 
 /*
- * A remembered translation of one 4 KiB piece of a page.
+ * A remembered translation of one 4 KiB piece of a page. A place's page is that of its tag at the
+ * place's own size: a drop of an address takes every place whose page contains it, so that one drop takes
+ * all pieces of a large page, and no other place.
  *
  * It counts only if marked, its tag is below 2^52 and belongs to its set, its frame is below 2^40 and
  * its size is 1 to 3; every other place reads as empty. Its flags are the bits named below; the other
@@ -193,7 +195,7 @@ uint64_t aalbrett_start(
 #define AALBRETT_CARD_TRANSLATE 0 /* access, mode, address */
 #define AALBRETT_CARD_STORE 1     /* address, value: 8 bytes of guest memory, at a physical address */
 #define AALBRETT_CARD_ROOT 2      /* value: CR3. All but G places are dropped */
-#define AALBRETT_CARD_PAGE 3      /* address: its page is dropped */
+#define AALBRETT_CARD_PAGE 3      /* address: each place whose page contains it is dropped */
 #define AALBRETT_CARD_ALL 4       /* everything is dropped */
 #define AALBRETT_CARD_SETTINGS 5  /* address: CR0 in its low half, CR4 in its high one; value: EFER; width. CR3 stays,
                                      and everything is dropped */
@@ -224,7 +226,8 @@ struct aalbrett_card {
  *
  * A translation is served from what the machine remembers, and reports 0 entries read, where the page
  * is remembered with the rights needed, and for a write with Dirty set. Otherwise it walks memory as
- * aalbrett_walk does; a success is remembered, and OUTSIDE or FAULT drops the page.
+ * aalbrett_walk does; a success is remembered, and OUTSIDE or FAULT drops the address as
+ * AALBRETT_CARD_PAGE does.
  *
  * memory is changed by a translation that walks and is answered DONE, as in aalbrett_walk, and by a
  * store that is answered DONE. SHORT, CARD_SHORT, UNKNOWN, WIDTH, ROOT, PAGING, EXTENSION and FORM

@@ -1,7 +1,7 @@
 /*
  * The first exercise on a machine that remembers: press, and the driver counts in its page; move the
  * page, press again, and the old page still counts; drop the page, press again, and the new one does.
- * Prints each step and checks it. Exits with 1 where anything differs.
+ * Then one drop of a large page. Prints each step and checks it. Exits with 1 where anything differs.
  */
 #include <inttypes.h>
 #include <stdbool.h>
@@ -96,6 +96,38 @@ static bool remembered(uint64_t frame) {
     return right;
 }
 
+/* Whether the machine remembers the piece of an address. */
+static bool holds(uint64_t address) {
+    uint64_t tag = address / PAGE_LENGTH;
+    for (size_t i = 0; i < 4; i++) {
+        const struct aalbrett_place *place = &machine.sets[tag % 16][i];
+        if ((place->flags & AALBRETT_PLACE_MARKED) && place->tag == tag) {
+            return true;
+        }
+    }
+    return false;
+}
+
+/* Reads at an address. */
+static void read_at(uint64_t address) {
+    step((struct aalbrett_card){
+        .kind = AALBRETT_CARD_TRANSLATE, .access = AALBRETT_READ, .mode = AALBRETT_USER, .address = address});
+}
+
+/* Gives whether one drop takes all pieces of a 2 MiB page and leaves the next page. */
+static bool large_page(void) {
+    store(0x3018, 0x800087);
+    store(0x3020, 0xa00087);
+    read_at(0x600000);
+    read_at(0x7ff000);
+    read_at(0x800000);
+    bool right = holds(0x600000) && holds(0x7ff000) && holds(0x800000);
+    step((struct aalbrett_card){.kind = AALBRETT_CARD_PAGE, .address = 0x651234});
+    right &= !holds(0x600000) && !holds(0x7ff000) && holds(0x800000);
+    printf("one drop of a 2 MiB page%s\n", right ? ": all its pieces are gone, the next page stays" : " -- WRONG");
+    return right;
+}
+
 /* Gives whether short buffers, short cards and unserved settings are refused as they are known to be. */
 static bool refusals(void) {
     struct aalbrett_machine other = {0};
@@ -132,5 +164,6 @@ int main(void) {
     right &= remembered(0);
     right &= pressed(NEW_PAGE, 4, 2, 2);
     right &= remembered(NEW_PAGE / PAGE_LENGTH);
+    right &= large_page();
     return right ? 0 : 1;
 }

@@ -30,6 +30,12 @@ impl Place {
             && (1..=3).contains(&self.size)
     }
 
+    /// Whether the place's own page, at the place's own size, contains the address.
+    pub fn covers(&self, address: u64) -> bool {
+        let bytes = bytes(self.size);
+        self.tag / (bytes / 4096) == address / bytes
+    }
+
     /// The rights that the place holds.
     pub fn rights(&self) -> Rights {
         Rights {
@@ -75,6 +81,15 @@ impl Set {
     }
 }
 
+/// The bytes of a page of that size.
+pub fn bytes(size: u8) -> u64 {
+    match size {
+        1 => 1 << 12,
+        2 => 1 << 21,
+        _ => 1 << 30,
+    }
+}
+
 /// The number of a tag's set.
 pub fn set_of(tag: u64) -> u64 {
     tag % SETS
@@ -114,17 +129,27 @@ impl Cache {
         *set = set.fill(number, new);
     }
 
-    /// Drops the places with the tag, G or not.
-    pub fn drop_tag(&mut self, tag: u64) {
-        let number = set_of(tag);
-        let set = &mut self.sets[number as usize];
-        *set = set.keep(number, |place| place.tag != tag);
+    /// The filled places whose page contains the address, each with its set's number.
+    pub fn covering(&self, address: u64) -> impl Iterator<Item = (u64, &Place)> {
+        let sets = (0..).zip(&self.sets);
+        let places = sets.flat_map(|(number, set)| set.places.iter().map(move |p| (number, p)));
+        places.filter(move |(number, place)| place.filled(*number) && place.covers(address))
+    }
+
+    /// Drops each place whose page contains the address, G or not.
+    pub fn drop_page(&mut self, address: u64) {
+        self.keep(|place| !place.covers(address));
     }
 
     /// Drops all but G places.
     pub fn keep_global(&mut self) {
+        self.keep(|place| place.global != 0);
+    }
+
+    /// Rewrites every set with only its filled places that are wanted.
+    fn keep(&mut self, wanted: impl Fn(&Place) -> bool) {
         for (number, set) in (0..).zip(&mut self.sets) {
-            *set = set.keep(number, |place| place.global != 0);
+            *set = set.keep(number, &wanted);
         }
     }
 }
@@ -169,8 +194,68 @@ mod tests {
         assert_eq!(tags(&cache), [0x53, 0x43, 0x33, 0x23]);
         cache.fill(place(0x33));
         assert_eq!(tags(&cache), [0x33, 0x53, 0x43, 0x23]);
-        cache.drop_tag(0x53);
+        cache.drop_page(0x5_3FFF);
         assert_eq!(tags(&cache), [0x33, 0x43, 0x23, 0]);
+    }
+
+    /// The cache filled with places of that size and these tags.
+    fn pieces(size: u8, tags: &[u64]) -> Cache {
+        let mut cache = Cache::empty();
+        for tag in tags {
+            cache.fill(Place {
+                size,
+                ..place(*tag)
+            });
+        }
+        cache
+    }
+
+    /// A drop takes every piece of a large page, in every set, and no neighbour.
+    #[test]
+    fn a_drop_takes_every_piece() {
+        for (size, bits) in [(1, 0), (2, 9), (3, 18)] {
+            let page = 5 << bits;
+            let next = page + (1 << bits);
+            let own = [page, next - 1, page + (next - page) / 2];
+            let neighbours = [page - 1, next];
+            for named in own {
+                let mut cache = pieces(size, &[own.as_slice(), &neighbours].concat());
+                assert!(cache.covering(named << 12).count() > 0);
+                cache.drop_page(named << 12 | 0xABC);
+                assert_eq!(cache, pieces(size, &neighbours));
+            }
+        }
+    }
+
+    /// A drop goes by the size that a place holds, whatever the size of another.
+    #[test]
+    fn a_drop_goes_by_the_places_own_size() {
+        let mut cache = pieces(2, &[0x600]);
+        cache.fill(place(0x611));
+        cache.fill(place(0x612));
+        cache.drop_page(0x61_1000);
+        let mut left = Cache::empty();
+        left.fill(place(0x612));
+        assert_eq!(cache, left);
+    }
+
+    /// A fill takes its exact tag and no other piece of its page.
+    #[test]
+    fn a_fill_leaves_the_other_pieces() {
+        let mut cache = pieces(2, &[0x603, 0x613]);
+        cache.fill(place(0x603));
+        assert_eq!(tags(&cache), [0x603, 0x613, 0, 0]);
+    }
+
+    /// A drop rewrites every set: what is not filled becomes zeros.
+    #[test]
+    fn a_drop_rewrites_every_set() {
+        let mut cache = Cache::empty();
+        for set in &mut cache.sets {
+            set.places[2].frame = 7;
+        }
+        cache.drop_page(0);
+        assert_eq!(cache, Cache::empty());
     }
 
     /// A root load leaves G places in order, and zeros.
@@ -213,7 +298,7 @@ mod tests {
                 cache.with_tag(bad.tag).count(),
                 usize::from(bad.tag == 0x13)
             );
-            cache.drop_tag(0x23);
+            cache.drop_page(0x2_3000);
             assert_eq!(cache.sets[3], Set::of([good].into_iter()));
         }
     }

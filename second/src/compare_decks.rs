@@ -11,7 +11,7 @@ use crate::settings::Settings;
 use crate::tally::Tally;
 
 /// The most cards of a compared deck.
-const CARDS: usize = 60;
+const CARDS: usize = 80;
 /// Memory lengths of compared steps: the paper's in most decks.
 const MEMORIES: [usize; 6] = [MEMORY, MEMORY, MEMORY, 40000, 0x4220, 0x501B];
 /// Lengths of the answer buffer: exact, long and short ones.

@@ -4,6 +4,7 @@ use crate::card::{Card, CARD};
 use crate::draw_card::{drop_page, load_root, outside_store, paging_off, refused_settings};
 use crate::draw_card::{settings, table_store, translation};
 use crate::draw_card::{ENTRIES, PAGES, PATH_ENTRIES, SET_PAGES};
+use crate::draw_pieces::large_page;
 use crate::random::Random;
 
 /// A deck of so many cards: tables, settings, root, then anything.
@@ -65,7 +66,7 @@ fn put(random: &mut Random, deck: &mut Vec<u8>, card: Card) {
 
 /// Adds any play of one or more cards: translations first of all, of few pages.
 fn play(random: &mut Random, deck: &mut Vec<u8>, pages: &[u64]) {
-    let card = match random.below(106) {
+    let card = match random.below(116) {
         0..=29 => translation(random, pages),
         30..=39 => return repeat(random, deck, pages),
         40..=44 => return sweep(random, deck),
@@ -80,6 +81,7 @@ fn play(random: &mut Random, deck: &mut Vec<u8>, pages: &[u64]) {
         95..=100 => refused_settings(random),
         101..=102 => return narrowed(random, deck),
         103 => return unpaged(random, deck, pages),
+        104..=113 => return pieces(random, deck),
         _ => Card::Unknown {
             kind: random.pick(&[6, 7, 128, 255]),
         },
@@ -93,6 +95,13 @@ fn repeat(random: &mut Random, deck: &mut Vec<u8>, pages: &[u64]) {
     for _ in 0..random.between(2, 4) {
         let access = random.pick(&[0, 0, 1, 1, 2]);
         ask(random, deck, page, access, mode);
+    }
+}
+
+/// Asks for pieces of a large page and its neighbours, drops it, and asks again.
+fn pieces(random: &mut Random, deck: &mut Vec<u8>) {
+    for card in large_page(random) {
+        put(random, deck, card);
     }
 }
 

@@ -1,7 +1,9 @@
 //! How often a deck brings up each kind, answer and event of the cache.
 
+use std::collections::BTreeSet;
+
 use crate::answer::Answer;
-use crate::cache::set_of;
+use crate::cache::{bytes, set_of, Place};
 use crate::card::{step, Card, CARD};
 use crate::deck::MEMORY;
 use crate::machine::Machine;
@@ -10,7 +12,7 @@ use crate::tally::Tally;
 use crate::translate::{canonical, translate, FETCH, WRITE};
 
 /// Rows that a good deal of decks brings up.
-const EVENTS: [&str; 31] = [
+const EVENTS: [&str; 40] = [
     "kind 0 answer 0",
     "kind 0 answer 1",
     "kind 0 answer 3",
@@ -42,6 +44,15 @@ const EVENTS: [&str; 31] = [
     "root load kept a place",
     "drop page of a place",
     "drop page of no canonical address",
+    "drop page of a 2 MiB page in many sets",
+    "drop page of a 1 GiB page in many sets",
+    "drop page of a large page through another piece",
+    "drop page beside a neighbour that stays",
+    "refused walk of a 2 MiB page in many sets",
+    "refused walk of a 1 GiB page in many sets",
+    "refused walk of a large page through another piece",
+    "refused walk beside a neighbour that stays",
+    "refused walk of a large page that is a table now",
 ];
 
 /// A tally with every event at 0.
@@ -83,8 +94,9 @@ fn rows(
             rows.push("drop page of no canonical address".into());
         }
         Card::DropPage { address } => {
-            let held = before.cache.with_tag(address >> 12).count() > 0;
+            let held = before.cache.covering(address).count() > 0;
             rows.extend(held.then(|| "drop page of a place".into()));
+            piece_rows("drop page", before, address, &mut rows);
         }
         Card::Translate {
             address,
@@ -113,10 +125,7 @@ fn translation_rows(
     let done = answer.answer == Answer::DONE;
     add(done && answer.detail == 0, "paging off");
     if !done {
-        let fault = answer.answer == Answer::FAULT;
-        add(held && fault, "fault dropped a place");
-        let outside = answer.answer == Answer::OUTSIDE;
-        add(held && outside, "outside dropped a place");
+        refused_rows(address, before, answer, rows);
     } else if answer.entries > 0 {
         let set = &before.cache.sets[set_of(tag) as usize];
         let full = set.places.iter().all(|place| place.marked != 0);
@@ -130,6 +139,48 @@ fn translation_rows(
         add(access == FETCH, "hit of a fetch");
         add(true, &format!("hit of size {}", answer.detail));
     }
+}
+
+/// Adds what a refused translation dropped, if it did.
+fn refused_rows(address: u64, before: &Machine, answer: &Answer, rows: &mut Vec<String>) {
+    let row = match answer.answer {
+        Answer::FAULT => "fault dropped a place",
+        Answer::OUTSIDE => "outside dropped a place",
+        _ => return,
+    };
+    let held: Vec<&Place> = before.cache.covering(address).map(|(_, p)| p).collect();
+    let mut add = |found: bool, row: &str| rows.extend(found.then(|| row.to_string()));
+    add(!held.is_empty(), row);
+    let table = held
+        .iter()
+        .any(|place| u64::from(place.size) > answer.detail);
+    add(table, "refused walk of a large page that is a table now");
+    piece_rows("refused walk", before, address, rows);
+}
+
+/// Adds what a drop took of large pages, and whether a neighbour of theirs stayed.
+fn piece_rows(drop: &str, before: &Machine, address: u64, rows: &mut Vec<String>) {
+    let cache = &before.cache;
+    let sets = |size: u8| {
+        let pieces = cache
+            .covering(address)
+            .filter(|(_, place)| place.size == size);
+        pieces.map(|(set, _)| set).collect::<BTreeSet<u64>>().len()
+    };
+    let mut large = cache.covering(address).filter(|(_, place)| place.size > 1);
+    let other = large.any(|(_, place)| place.tag != address >> 12);
+    let beside = |size: u8| {
+        let page = address / bytes(size) * bytes(size);
+        let near = [page.wrapping_sub(1), page.wrapping_add(bytes(size))];
+        let mut places = near.iter().flat_map(|at| cache.covering(*at));
+        places.any(|(_, place)| !place.covers(address))
+    };
+    let stays = [2, 3].iter().any(|size| sets(*size) > 0 && beside(*size));
+    let mut add = |found: bool, row: &str| rows.extend(found.then(|| format!("{drop} {row}")));
+    add(sets(2) > 1, "of a 2 MiB page in many sets");
+    add(sets(3) > 1, "of a 1 GiB page in many sets");
+    add(other, "of a large page through another piece");
+    add(stays, "beside a neighbour that stays");
 }
 
 #[cfg(test)]

@@ -8,8 +8,9 @@ use crate::settings::Settings;
 /// The entries that a deck may store, with the values that suit its tables.
 ///
 /// Both roots have an entry that points at the root itself, one entry of level 3 points outside,
-/// two of level 2 lead to one table, and the pages of level 1 share a set.
-pub const ENTRIES: [(u64, u64); 20] = [
+/// two of level 2 lead to one table, the pages of level 1 share a set, and two large pages of each
+/// size are neighbours.
+pub const ENTRIES: [(u64, u64); 24] = [
     (0x1000, 0x2007),
     (0x1018, 0x1007),
     (0x1FF8, 0x1003),
@@ -19,10 +20,14 @@ pub const ENTRIES: [(u64, u64); 20] = [
     (0x2008, 0x4000_0087),
     (0x2010, 0x9007),
     (0x2018, 0x2007),
+    (0x2020, 0x8000_0087),
+    (0x2028, 0xC000_0087),
     (0x3010, 0x4007),
     (0x3018, 0x80_0087),
     (0x3020, 0x4007),
     (0x3028, 0x7007),
+    (0x3030, 0xA0_0087),
+    (0x3038, 0xC0_0087),
     (0x4018, 0x5007),
     (0x4020, 0x6003),
     (0x4098, 0x8000_0000_0000_7007),
@@ -74,6 +79,16 @@ pub const PATH_ENTRIES: [(u64, u64, u64); 15] = [
     (0x42_3000, 0x3010, 0x4007),
     (0x44_3000, 0x2000, 0x3007),
     (0x60_4000, 0x2000, 0x3007),
+];
+
+/// Large pages: address, bytes, and the address and usual value of the entry.
+pub const LARGE_PAGES: [(u64, u64, u64, u64); 6] = [
+    (0x60_0000, 1 << 21, 0x3018, 0x80_0087),
+    (0xC0_0000, 1 << 21, 0x3030, 0xA0_0087),
+    (0xE0_0000, 1 << 21, 0x3038, 0xC0_0087),
+    (0x4000_0000, 1 << 30, 0x2008, 0x4000_0087),
+    (0x1_0000_0000, 1 << 30, 0x2020, 0x8000_0087),
+    (0x1_4000_0000, 1 << 30, 0x2028, 0xC000_0087),
 ];
 
 /// Bits of an entry that are worth turning over.

@@ -3,31 +3,30 @@
 use crate::cache::{set_of, Place, Set};
 use crate::random::Random;
 
-/// A set of that number, whose places often have the tags of the pages.
+/// A set of that number, whose places often are of the pages or of large pages around them.
 pub fn set(random: &mut Random, number: u64, pages: &[u64]) -> Set {
-    let tags = pages.iter().map(|page| page >> 12);
-    let own: Vec<u64> = tags.filter(|tag| set_of(*tag) == number).collect();
+    let tags: Vec<u64> = pages.iter().map(|page| page >> 12).collect();
     Set {
-        places: [(); 4].map(|()| place(random, number, &own)),
+        places: [(); 4].map(|()| place(random, number, &tags)),
     }
 }
 
 /// A place for the set of that number: zeros, rubbish, good, or good but for one rule.
-fn place(random: &mut Random, number: u64, own: &[u64]) -> Place {
+fn place(random: &mut Random, number: u64, tags: &[u64]) -> Place {
     match random.below(20) {
         0 => Place::default(),
         1 => rubbish(random),
-        2..=8 => broken(random, number, own),
-        _ => good(random, number, own),
+        2..=8 => broken(random, number, tags),
+        _ => good(random, number, tags),
     }
 }
 
 /// A place that counts as filled in the set of that number.
-fn good(random: &mut Random, number: u64, own: &[u64]) -> Place {
+fn good(random: &mut Random, number: u64, tags: &[u64]) -> Place {
     let word = random.word();
     Place {
         marked: flag(random, 100),
-        tag: tag(random, number, own),
+        tag: tag(random, number, tags),
         frame: match random.below(6) {
             0 => (1 << 40) - 1,
             1..=3 => random.below(16),
@@ -43,13 +42,22 @@ fn good(random: &mut Random, number: u64, own: &[u64]) -> Place {
     }
 }
 
-/// A tag below 2^52 of the set of that number, mostly one of its pages' or near it.
-fn tag(random: &mut Random, number: u64, own: &[u64]) -> u64 {
-    let any = random.word() >> 12 & !0xF | number;
-    if own.is_empty() || random.chance(10) {
+/// A tag below 2^52 of the set of that number: one of these, one near it, a piece of its large page, or any.
+fn tag(random: &mut Random, number: u64, tags: &[u64]) -> u64 {
+    let own: Vec<u64> = tags
+        .iter()
+        .copied()
+        .filter(|tag| set_of(*tag) == number)
+        .collect();
+    if random.chance(10) {
+        let any = random.word() >> 12 & !0xF | number;
         return random.pick(&[any, any, number, (1 << 52) - 16 + number]);
     }
-    let page = random.pick(own);
+    if own.is_empty() || random.chance(30) {
+        let near = random.pick(tags);
+        return piece(random, number, near);
+    }
+    let page = random.pick(&own);
     match random.below(10) {
         0 => page ^ 16 << random.below(48),
         1 => page ^ 16,
@@ -58,9 +66,19 @@ fn tag(random: &mut Random, number: u64, own: &[u64]) -> u64 {
     }
 }
 
+/// The tag of a piece in that set, of the large page around a tag or of a neighbour, often at its ends.
+fn piece(random: &mut Random, number: u64, tag: u64) -> u64 {
+    let bits = random.pick(&[9, 18]);
+    let beside = random.pick(&[0, 0, 0, 0, 1, u64::MAX]);
+    let page = (tag >> bits).wrapping_add(beside);
+    let any = random.below(1 << bits);
+    let within = random.pick(&[any, any, 0, (1 << bits) - 1]);
+    (page << bits | within) & ((1 << 52) - 16) | number
+}
+
 /// A good place with one rule broken.
-fn broken(random: &mut Random, number: u64, own: &[u64]) -> Place {
-    let mut place = good(random, number, own);
+fn broken(random: &mut Random, number: u64, tags: &[u64]) -> Place {
+    let mut place = good(random, number, tags);
     let word = random.word();
     match random.below(5) {
         0 => place.marked = 0,

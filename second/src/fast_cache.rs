@@ -157,9 +157,24 @@ impl FastCache {
             };
             fill(set, number, new);
         } else {
-            drop_tag(set, number, tag);
+            self.drop_page(address);
         }
         answer
+    }
+
+    /// Drops each place whose page contains the address, gaps closed.
+    fn drop_page(&mut self, address: u64) {
+        for (number, set) in (0..).zip(&mut self.sets) {
+            let mut room = 0;
+            for at in 0..4 {
+                let place = set[at];
+                if place.filled(number) && !place.covers(address) {
+                    set[room] = place;
+                    room += 1;
+                }
+            }
+            set[room..].fill(Place::default());
+        }
     }
 }
 
@@ -235,19 +250,6 @@ fn fill(set: &mut [Place; 4], number: u64, new: Place) {
         set[room] = carried;
         set[room + 1..].fill(Place::default());
     }
-}
-
-/// Drops the places with the tag, gaps closed.
-fn drop_tag(set: &mut [Place; 4], number: u64, tag: u64) {
-    let mut room = 0;
-    for at in 0..4 {
-        let place = set[at];
-        if place.filled(number) && place.tag != tag {
-            set[room] = place;
-            room += 1;
-        }
-    }
-    set[room..].fill(Place::default());
 }
 
 #[cfg(test)]

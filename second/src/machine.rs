@@ -47,7 +47,7 @@ impl Machine {
             let place = self.place(tag, access == WRITE, &answer, &walk);
             self.cache.fill(place);
         } else {
-            self.cache.drop_tag(tag);
+            self.cache.drop_page(address);
         }
         answer
     }
@@ -100,10 +100,10 @@ impl Machine {
         self.drop_all()
     }
 
-    /// Drops the page of the address; a non-canonical one changes nothing.
+    /// Drops each place whose page contains the address; a non-canonical one changes nothing.
     pub fn drop_page(&mut self, address: u64) -> Answer {
         if canonical(address) {
-            self.cache.drop_tag(address >> 12);
+            self.cache.drop_page(address);
         }
         Answer::bare(Answer::DONE)
     }

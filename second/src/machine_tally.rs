@@ -3,16 +3,16 @@
 use crate::answer::Answer;
 use crate::cache::{set_of, Place, Set};
 use crate::card::{Card, CARD};
+use crate::drop_tally::{self, drop_page_rows, refused_rows};
 use crate::lookup_tally::{self, lookup_rows, Asked};
 use crate::machine::Machine;
 use crate::rewrite_tally::{self, rewrite_rows, rubbish};
 use crate::settings::Settings;
 use crate::settings_tally::{self, settings_rows};
 use crate::tally::Tally;
-use crate::translate::canonical;
 
 /// Rows of single calls.
-const CALLS: [&str; 53] = [
+const CALLS: [&str; 45] = [
     "kind 0 answer 0",
     "kind 0 answer 1",
     "kind 0 answer 2",
@@ -49,15 +49,7 @@ const CALLS: [&str; 53] = [
     "fill over two places of its tag",
     "fill pushes a fifth place out",
     "fill where rubbish makes room for a fourth",
-    "page drop of two places",
-    "page drop of a G place",
-    "page drop of no place",
-    "fault's drop of two places",
-    "fault's drop of a G place",
-    "outside's drop of two places",
-    "outside's drop of a G place",
-    "page drop of no canonical address beside rubbish",
-    "page drop of no canonical address whose tag is held",
+    "fill leaves another piece of its large page",
     "root load keeps a G place",
     "root load keeps a G place at PGE = 0",
     "root load drops a place",
@@ -88,6 +80,7 @@ pub fn tally() -> Tally {
             .flat_map(|judge| settings_tally::expected(judge)),
     );
     rows.extend(lookup_tally::expected());
+    rows.extend(drop_tally::expected());
     rows.extend(rewrite_tally::expected());
     rows.push("spare bits kept".into());
     rows.push("root load keeps a G place with spare bits".into());
@@ -199,8 +192,7 @@ fn translation_rows(call: &Call, asked: &Asked, rows: &mut Vec<String>) {
         _ if !settings.paging() => add(held, "paging off beside the page's place"),
         _ if lookup_rows(call.before, asked, call.memory, rows) => {}
         Answer::DONE => fill_rows(call, tag, rows),
-        Answer::FAULT => drop_rows("fault's drop", call, tag, rows),
-        _ => drop_rows("outside's drop", call, tag, rows),
+        _ => refused_rows(call, asked.address, rows),
     }
 }
 
@@ -214,35 +206,15 @@ fn fill_rows(call: &Call, tag: u64, rows: &mut Vec<String>) {
     add(removed == 1, "fill over a place of its tag");
     add(removed > 1, "fill over two places of its tag");
     add(others == 4, "fill pushes a fifth place out");
+    let mut siblings = set
+        .places
+        .iter()
+        .filter(|p| p.filled(number) && p.tag != tag);
+    let sibling = siblings.any(|place| place.covers(tag << 12));
+    add(sibling, "fill leaves another piece of its large page");
     let room = others == 3 && rubbish(set, number);
     add(room, "fill where rubbish makes room for a fourth");
     rewrite_rows("fill", number, set, |place| place.tag != tag, rows);
-}
-
-/// Adds what a drop of a tag met in its set.
-fn drop_rows(drop: &str, call: &Call, tag: u64, rows: &mut Vec<String>) {
-    let (number, set) = set(call, tag);
-    let dropped: Vec<&Place> = call.before.cache.with_tag(tag).collect();
-    let mut add = |found: bool, row: &str| rows.extend(found.then(|| format!("{drop} of {row}")));
-    add(dropped.len() > 1, "two places");
-    add(dropped.is_empty(), "no place");
-    add(dropped.iter().any(|place| place.global != 0), "a G place");
-    rewrite_rows(drop, number, set, |place| place.tag != tag, rows);
-}
-
-/// Adds the rows of a page drop.
-fn drop_page_rows(call: &Call, address: u64, rows: &mut Vec<String>) {
-    let tag = address >> 12;
-    if canonical(address) {
-        return drop_rows("page drop", call, tag, rows);
-    }
-    let (number, set) = set(call, tag);
-    let held = call.before.cache.with_tag(tag).count() > 0;
-    let mut add = |found: bool, row: &str| {
-        rows.extend(found.then(|| format!("page drop of no canonical address {row}")));
-    };
-    add(rubbish(set, number), "beside rubbish");
-    add(held, "whose tag is held");
 }
 
 /// Adds what a root load met in all sets.

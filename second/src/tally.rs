@@ -52,6 +52,12 @@ impl Tally {
         rare.map(|(row, _)| row.as_str()).collect()
     }
 
+    /// So many more are needed until each row came up that many times.
+    pub fn lacking(&self, least: u64) -> u64 {
+        let counts = self.counts.values();
+        counts.map(|count| least.saturating_sub(*count)).sum()
+    }
+
     /// The count of one row.
     pub fn of(&self, row: &str) -> u64 {
         self.counts.get(row).copied().unwrap_or(0)

@@ -30,6 +30,16 @@ pub enum End {
     Reserved { level: u64 },
 }
 
+impl End {
+    /// The level at which the walk ends.
+    pub fn level(&self) -> u64 {
+        match *self {
+            End::Page { size } => size,
+            End::Outside { level, .. } | End::Missing { level } | End::Reserved { level } => level,
+        }
+    }
+}
+
 /// The entries read, from level 4 down, and the end.
 #[derive(Clone, Debug)]
 pub struct Walk {

@@ -1,6 +1,6 @@
 -- The laws of the cache that other crates cite: of one place, of one set, of the whole.
-use Prim.Native.Nat.{ℕ, _^_, _<_, _≤_}
-use native.Mathlib.Decide.{decLt, ℕ-discrete}
+use Prim.Native.Nat.{ℕ, _*_, _/_, _^_, _<_, _≤_}
+use native.Mathlib.Decide.{decLt}
 use native.Mathlib.Omega.{arith}
 use mathlib.Core.Path.{_≡_, refl, sym, ap, _∙_}
 use mathlib.Core.Bool.{Bool, true, false, not, _&&_}
@@ -10,16 +10,17 @@ use lib.Dec.{eqb, ltb, leb}
 use lib.ListN.{length, take, length-set, getD-replicate, List·getD-eq-default}
 use lib.Seq.{take-all, getD-set-same, getD-set-other}
 use Rattle.word.specs.Bits.{includes}
+use Rattle.cache.specs.declared.Drop.{Drop}
 use Rattle.cache.specs.declared.Place.{Place}
 use Rattle.cache.specs.declared.Set.{Set}
 use Rattle.cache.specs.declared.Cache.{Cache}
 use Rattle.cache.specs.declared.Wanted.{Wanted}
 use Rattle.cache.specs.declared.Found.{Found}
-use Rattle.cache.specs.Places.{isMarked, hasG, zeroPlace, setIndex, filledIn, otherTag, spares, stays, serves}
-use Rattle.cache.specs.Sets.{keep, four, setOf, emptySet, filled, firstServing, findIn, fillSet, dropSet, rootSet}
-use Rattle.cache.specs.Whole.{setAt, held, rewriteSet, rewriteAll, emptyCache, fillCache, dropPage, loadRoot}
+use Rattle.cache.specs.Places.{isMarked, zeroPlace, setIndex, filledIn, Key, pageBytes, covers, left, otherTag, spares, serves}
+use Rattle.cache.specs.Sets.{keep, four, setOf, emptySet, filled, firstServing, findIn, fillSet, dropSet}
+use Rattle.cache.specs.Whole.{setAt, held, rewriteSet, rewriteAll, emptyCache, fillCache, dropCache}
 use Rattle.cache.proofs.Steps.{setsBelow-length, setsBelow-at}
-use Rattle.cache.proofs.Lists.{Each, and-true, each-keep, each-kept, each-weaker, keep-each, keep-length, keep-four}
+use Rattle.cache.proofs.Lists.{Each, and-true, each-keep, each-kept, keep-length, keep-four}
 
 -- One place.
 
@@ -66,28 +67,46 @@ pub zero-empty : (i : ℕ) → filledIn i zeroPlace ≡ false
 unfolding filledIn
 zero-empty i = refl
 
--- a drop of a tag takes the places of that tag, and no other
-pub drop-takes : (t : ℕ) (p : Place) → p .tag ≡ t → otherTag t p ≡ false
+-- places of a tag, and of others
+pub tag-same : (t : ℕ) (p : Place) → p .tag ≡ t → otherTag t p ≡ false
 unfolding otherTag
-drop-takes t p e = ap not (eq-eqb (p .tag) t e)
+tag-same t p e = ap not (eq-eqb (p .tag) t e)
 
-pub drop-leaves : (t : ℕ) (p : Place) → (p .tag ≡ t → ⊥) → otherTag t p ≡ true
+pub tag-other : (t : ℕ) (p : Place) → (p .tag ≡ t → ⊥) → otherTag t p ≡ true
 unfolding otherTag
-drop-leaves t p e = ap not (ne-eqb (p .tag) t e)
+tag-other t p e = ap not (ne-eqb (p .tag) t e)
+
+-- the quotients of pages by their 4 KiB pieces
+pub covers-2-mib : (k : Key) (t : ℕ) → k .size ≡ 2 → eqb (k .tag / 512) (t / 512) ≡ covers k t
+covers-2-mib k t size = rw (size, by-pieces (k .tag), by-pieces t)
+  where
+    by-pieces : (n : ℕ) → n * 4096 / 2 ^ 21 ≡ n / 512
+    by-pieces n = omega arith
+
+pub covers-1-gib : (k : Key) (t : ℕ) → k .size ≡ 3 → eqb (k .tag / 262144) (t / 262144) ≡ covers k t
+covers-1-gib k t size = rw (size, by-pieces (k .tag), by-pieces t)
+  where
+    by-pieces : (n : ℕ) → n * 4096 / 2 ^ 30 ≡ n / 262144
+    by-pieces n = omega arith
+
+pub covers-4-kib : (k : Key) (t : ℕ) → (k .size ≡ 2 → ⊥) → (k .size ≡ 3 → ⊥) → eqb (k .tag) t ≡ covers k t
+covers-4-kib k t not-2 not-3 = rw (ne-eqb (k .size) 2 not-2, ne-eqb (k .size) 3 not-3, by-pieces (k .tag), by-pieces t)
+  where
+    by-pieces : (n : ℕ) → n * 4096 / 2 ^ 12 ≡ n
+    by-pieces n = omega arith
+
+-- a page drop takes the place of the page itself
+pub own-covered : (k : Key) → covers k (k .tag) ≡ true
+own-covered k = eq-eqb (k .tag * 4096 / pageBytes (k .size)) _ refl
 
 -- a fill takes the places of its tag, and no other
 pub fill-takes : (new p : Place) → p .tag ≡ new .tag → spares new p ≡ false
 unfolding spares
-fill-takes new p e = drop-takes (new .tag) p e
+fill-takes new p e = tag-same (new .tag) p e
 
 pub fill-leaves : (new p : Place) → (p .tag ≡ new .tag → ⊥) → spares new p ≡ true
 unfolding spares
-fill-leaves new p e = drop-leaves (new .tag) p e
-
--- a root load takes the places without G, and no other
-pub root-takes : (p : Place) → stays p ≡ hasG p
-unfolding stays
-root-takes p = refl
+fill-leaves new p e = tag-other (new .tag) p e
 
 -- what a place that serves has
 pub record Serves (w : Wanted) (p : Place) : Type 0 where
@@ -145,13 +164,9 @@ unfolding fillSet
 filled-fill i p s h =
     filled-made i (p ∷ keep (spares p) (filled i s)) (h, each-kept (filledIn i) (spares p) (filled i s) (filled-places i s))
 
-pub filled-drop : (i t : ℕ) (s : Set) → filled i (dropSet i t s) ≡ keep (otherTag t) (filled i s)
+pub filled-drop : (i : ℕ) (d : Drop) (s : Set) → filled i (dropSet i d s) ≡ keep (left d) (filled i s)
 unfolding dropSet
-filled-drop i t s = filled-kept i (otherTag t) s
-
-pub filled-root : (i : ℕ) (s : Set) → filled i (rootSet i s) ≡ keep stays (filled i s)
-unfolding rootSet
-filled-root i s = filled-kept i stays s
+filled-drop i d s = filled-kept i (left d) s
 
 -- The whole cache. A cache has 16 sets, and every change leaves as many.
 
@@ -171,13 +186,9 @@ pub fill-sixteen : (p : Place) (c : Cache) → Sixteen c → Sixteen (fillCache 
 unfolding fillCache
 fill-sixteen p c h = one-sixteen (setIndex (p .tag)) (fillSet (setIndex (p .tag)) p) c h
 
-pub drop-sixteen : (t : ℕ) (c : Cache) → Sixteen c → Sixteen (dropPage t c)
-unfolding dropPage
-drop-sixteen t c h = one-sixteen (setIndex t) (dropSet (setIndex t) t) c h
-
-pub root-sixteen : (c : Cache) → Sixteen (loadRoot c)
-unfolding loadRoot
-root-sixteen c = all-sixteen rootSet c
+pub drop-sixteen : (d : Drop) (c : Cache) → Sixteen (dropCache d c)
+unfolding dropCache
+drop-sixteen d c = all-sixteen (λ i. dropSet i d) c
 
 -- a tag has one of the 16 sets
 pub index-below : (t : ℕ) → setIndex t < 16
@@ -222,41 +233,22 @@ pub held-fill-other : (p : Place) (c : Cache) (j : ℕ) → (j ≡ setIndex (p .
 unfolding fillCache
 held-fill-other p c j apart = ap (filled j) (other-set-at (setIndex (p .tag)) j (fillSet (setIndex (p .tag)) p) c apart)
 
--- a page's places are in its own set alone
-none-elsewhere : (t j : ℕ) (c : Cache) → (j ≡ setIndex t → ⊥) → Each (otherTag t) (held j c)
-none-elsewhere t j c apart = each-weaker (filledIn j) (otherTag t) other (held j c) (held-own j c)
+-- in a set past the sixteenth nothing is held, since no tag has it
+held-beyond : (j : ℕ) (c : Cache) → 16 ≤ j → held j c ≡ []
+held-beyond j c beyond = go (held j c) (held-own j c)
   where
-    other : (p : Place) → filledIn j p ≡ true → otherTag t p ≡ true
-    other p h = drop-leaves t p (λ e. apart (sym (filled-has j p h .own-set) ∙ ap setIndex e))
+    go : (ps : List Place) → Each (filledIn j) ps → ps ≡ []
+    go [] h = refl
+    go (p ∷ ps) h = absurd (omega (arith, index-below (p .tag), filled-has j p (h .0) .own-set))
 
--- what a change of one set leaves there, where a set with no places keeps none
-changed-own : (i : ℕ) (change : Set → Set) (test : Place → Bool) (c : Cache)
-    → ((s : Set) → filled i (change s) ≡ keep test (filled i s)) → held i (rewriteSet i change c) ≡ keep test (held i c)
-changed-own i change test c leaves = go (decLt i (length (c .sets)))
+-- a drop leaves in every set what it does not take
+pub held-drop : (d : Drop) (c : Cache) (j : ℕ) → held j (dropCache d c) ≡ keep (left d) (held j c)
+unfolding dropCache
+held-drop d c j = go (decLt j 16)
   where
-    go : Dec (i < length (c .sets)) → held i (rewriteSet i change c) ≡ keep test (held i c)
-    go (yes inside) = ap (filled i) (getD-set-same (c .sets) i _ _ inside) ∙ leaves (setAt i c)
-    go (no past) =
-        held-past i (rewriteSet i change c) (omega (arith, length-set (c .sets) i (change (setAt i c)))) ∙ ap (keep test) (sym (held-past i c (omega arith)))
-
--- a page drop leaves in every set what is of another tag
-pub held-drop : (t : ℕ) (c : Cache) (j : ℕ) → held j (dropPage t c) ≡ keep (otherTag t) (held j c)
-unfolding dropPage
-held-drop t c j = go (ℕ-discrete j (setIndex t))
-  where
-    go : Dec (j ≡ setIndex t) → held j (dropPage t c) ≡ keep (otherTag t) (held j c)
-    go (yes same) = rw same (changed-own (setIndex t) (dropSet (setIndex t) t) (otherTag t) c (filled-drop (setIndex t) t))
-    go (no apart) =
-        ap (filled j) (other-set-at (setIndex t) j (dropSet (setIndex t) t) c apart) ∙ sym (keep-each (otherTag t) (held j c) (none-elsewhere t j c apart))
-
--- a root load leaves in every set what stays
-pub held-root : (c : Cache) (j : ℕ) → Sixteen c → held j (loadRoot c) ≡ keep stays (held j c)
-unfolding loadRoot
-held-root c j sixteen = go (decLt j 16)
-  where
-    go : Dec (j < 16) → held j (loadRoot c) ≡ keep stays (held j c)
-    go (yes small) = ap (filled j) (each-set-at rootSet c j small) ∙ filled-root j (setAt j c)
-    go (no large) = held-past j (loadRoot c) (omega arith) ∙ ap (keep stays) (sym (held-past j c (omega arith)))
+    go : Dec (j < 16) → held j (dropCache d c) ≡ keep (left d) (held j c)
+    go (yes small) = ap (filled j) (each-set-at (λ i. dropSet i d) c j small) ∙ filled-drop j d (setAt j c)
+    go (no large) = held-beyond j (dropCache d c) (omega arith) ∙ ap (keep (left d)) (sym (held-beyond j c (omega arith)))
 
 -- a lookup in the set of its tag
 abbrev pub findCache : Wanted → Cache → Found

@@ -26,6 +26,11 @@ pub and-true : (a b : Bool) → (a && b) ≡ true → (a ≡ true) × (b ≡ tru
 and-true true b h = (refl, h)
 and-true false b h = (h, cc)
 
+-- what is not the opposite
+pub not-not : (b : Bool) → not (not b) ≡ b
+not-not true = refl
+not-not false = refl
+
 -- two filters in a row are one
 pub two-filters : (f g : Place → Bool) (ps : List Place) → keep g (keep f ps) ≡ keep (both f g) ps
 two-filters f g [] = refl

@@ -3,12 +3,13 @@ use Prim.Native.Nat.{ℕ}
 use mathlib.Core.Bool.{Bool, cond}
 use mathlib.Core.List.{List, [], _∷_}
 use lib.ListN.{getD}
+use Rattle.cache.specs.declared.Drop.{Drop}
 use Rattle.cache.specs.declared.Place.{Place}
 use Rattle.cache.specs.declared.Set.{Set}
 use Rattle.cache.specs.declared.Wanted.{Wanted}
 use Rattle.cache.specs.declared.Found.{Found}
 use Rattle.cache.specs.declared.Found.the-variants.{At, Nothing}
-use Rattle.cache.specs.Places.{zeroPlace, filledIn, otherTag, spares, stays, serves}
+use Rattle.cache.specs.Places.{zeroPlace, filledIn, left, spares, serves}
 
 -- a place in front of others, where it is kept
 abbrev pub pick : Bool → Place → List Place → List Place
@@ -57,9 +58,5 @@ unfoldable pub fillSet : ℕ → Place → Set → Set
 fillSet i p s = setOf (p ∷ keep (spares p) (filled i s))
 
 -- "Drops close gaps in the same way."
-unfoldable pub dropSet : ℕ → ℕ → Set → Set
-dropSet i t s = setOf (keep (otherTag t) (filled i s))
-
--- "A root load drops all but G places."
-unfoldable pub rootSet : ℕ → Set → Set
-rootSet i s = setOf (keep stays (filled i s))
+unfoldable pub dropSet : ℕ → Drop → Set → Set
+dropSet i d s = setOf (keep (left d) (filled i s))

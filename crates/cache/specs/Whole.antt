@@ -2,11 +2,12 @@
 use Prim.Native.Nat.{ℕ, zero, suc}
 use mathlib.Core.List.{List, [], _∷_, _++_}
 use lib.ListN.{getD, set, replicate}
+use Rattle.cache.specs.declared.Drop.{Drop}
 use Rattle.cache.specs.declared.Place.{Place}
 use Rattle.cache.specs.declared.Set.{Set}
 use Rattle.cache.specs.declared.Cache.{Cache}
 use Rattle.cache.specs.Places.{setIndex}
-use Rattle.cache.specs.Sets.{emptySet, filled, fillSet, dropSet, rootSet}
+use Rattle.cache.specs.Sets.{emptySet, filled, fillSet, dropSet}
 
 -- a cache's set of a number; past the end a set with no places
 abbrev pub setAt : ℕ → Cache → Set
@@ -25,7 +26,7 @@ abbrev pub setsBelow : ℕ → (ℕ → Set) → List Set
 setsBelow zero f = []
 setsBelow (suc n) f = setsBelow n f ++ (f n ∷ [])
 
--- a root load rewrites "all sets"
+-- "all sets" are rewritten
 abbrev pub rewriteAll : (ℕ → Set → Set) → Cache → Cache
 rewriteAll change c = record { sets = setsBelow 16 (λ i. change i (setAt i c)) }
 
@@ -37,10 +38,6 @@ emptyCache = record { sets = replicate 16 emptySet }
 unfoldable pub fillCache : Place → Cache → Cache
 fillCache p c = rewriteSet (setIndex (p .tag)) (fillSet (setIndex (p .tag)) p) c
 
--- a page is dropped from the set of its tag
-unfoldable pub dropPage : ℕ → Cache → Cache
-dropPage t c = rewriteSet (setIndex t) (dropSet (setIndex t) t) c
-
--- a root load goes over all sets
-unfoldable pub loadRoot : Cache → Cache
-loadRoot c = rewriteAll rootSet c
+-- a drop goes over all sets: "both now rewrite every set"
+unfoldable pub dropCache : Drop → Cache → Cache
+dropCache d c = rewriteAll (λ i. dropSet i d) c

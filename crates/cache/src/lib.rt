@@ -32,6 +32,12 @@ pub struct Wanted {
     pub flags: u8,
 }
 
+// What a drop takes: each place whose own page contains a page, by its tag; or all but G places.
+pub enum Drop {
+    Page(u64),
+    Local,
+}
+
 // What a lookup finds.
 pub enum Found {
     At(Place),

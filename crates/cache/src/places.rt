@@ -1,10 +1,16 @@
 // One place: when it counts as filled, and what each drop, fill and lookup asks of it.
 use crate::Cache;
+use crate::Drop;
 use crate::Place;
 use crate::Wanted;
 use address::Frame;
 ghost use mathlib.Core.Path.{_≡_};
 ghost use Rattle.cache.specs.Places as spec;
+
+// The 4 KiB pieces of a large page.
+const PIECES_OF_2_MIB: u64 = 512;
+
+const PIECES_OF_1_GIB: u64 = 262144;
 
 impl Place {
     // The flags: combined R/W, U/S and fetch rights, D, G, and that the place is marked.
@@ -42,25 +48,34 @@ impl Place {
         (self.flags / Place::MARKED % 2 == 1) & (tag & ((self.frame.0 < 0x100_0000_0000) & size))
     }
 
-    // Whether the place is of another page: a drop of the tag leaves it.
-    pub fn other_than(self, tag: u64) -> bool
-        ensures { λ r. ⌜ r ≡ spec.otherTag tag self ⌝ }
+    // Whether the place's own page, at its own size, contains the page of a tag.
+    fn covers(self, tag: u64) -> bool
+        ensures { λ r. ⌜ r ≡ spec.covers (spec.keyOf self) tag ⌝ }
     {
-        self.tag != tag
+        if self.size == 2 {
+            return self.tag / PIECES_OF_2_MIB == tag / PIECES_OF_2_MIB;
+        }
+        if self.size == 3 {
+            return self.tag / PIECES_OF_1_GIB == tag / PIECES_OF_1_GIB;
+        }
+        self.tag == tag
+    }
+
+    // Whether a drop leaves the place.
+    pub fn left_by(self, drop: Drop) -> bool
+        ensures { λ r. ⌜ r ≡ spec.left drop self ⌝ }
+    {
+        match drop {
+            Drop::Page(tag) => !self.covers(tag),
+            Drop::Local => self.flags / Place::GLOBAL % 2 == 1,
+        }
     }
 
     // Whether a fill of a new place leaves this one.
     pub fn spared_by(self, new: Place) -> bool
         ensures { λ r. ⌜ r ≡ spec.spares new self ⌝ }
     {
-        self.other_than(new.tag)
-    }
-
-    // Whether a root load leaves the place.
-    pub fn stays(self) -> bool
-        ensures { λ r. ⌜ r ≡ spec.stays self ⌝ }
-    {
-        self.flags / Place::GLOBAL % 2 == 1
+        self.tag != new.tag
     }
 
     // Whether the place has all that a translation wants.

@@ -1,4 +1,5 @@
 // One set: lookup, fill and drops. Each change gives the set anew, its gaps closed, the rest zeros.
+use crate::Drop;
 use crate::Found;
 use crate::Place;
 use crate::Set;
@@ -107,33 +108,18 @@ impl Set {
         self.only(first, second, third, fourth).pick(true, place)
     }
 
-    // The set without the places of a tag.
-    pub fn drop_tag(self, set: u64, tag: u64) -> Set
-        ensures { λ r. ⌜ r ≡ spec.dropSet set tag self ⌝ }
+    // The set with the places that a drop leaves.
+    pub fn drop(self, set: u64, drop: Drop) -> Set
+        ensures { λ r. ⌜ r ≡ spec.dropSet set drop self ⌝ }
     {
         let a = self.places[0];
         let b = self.places[1];
         let c = self.places[2];
         let d = self.places[3];
-        let first = a.filled_in(set) & a.other_than(tag);
-        let second = b.filled_in(set) & b.other_than(tag);
-        let third = c.filled_in(set) & c.other_than(tag);
-        let fourth = d.filled_in(set) & d.other_than(tag);
-        self.only(first, second, third, fourth)
-    }
-
-    // The set with the places that stay when a root is loaded.
-    pub fn load_root(self, set: u64) -> Set
-        ensures { λ r. ⌜ r ≡ spec.rootSet set self ⌝ }
-    {
-        let a = self.places[0];
-        let b = self.places[1];
-        let c = self.places[2];
-        let d = self.places[3];
-        let first = a.filled_in(set) & a.stays();
-        let second = b.filled_in(set) & b.stays();
-        let third = c.filled_in(set) & c.stays();
-        let fourth = d.filled_in(set) & d.stays();
+        let first = a.filled_in(set) & a.left_by(drop);
+        let second = b.filled_in(set) & b.left_by(drop);
+        let third = c.filled_in(set) & c.left_by(drop);
+        let fourth = d.filled_in(set) & d.left_by(drop);
         self.only(first, second, third, fourth)
     }
 }

@@ -1,5 +1,6 @@
-// The cache: a page is dropped from its tag's set; a root load goes over all sets.
+// The cache: a drop goes over all sets.
 use crate::Cache;
+use crate::Drop;
 use crate::Set;
 ghost use mathlib.Core.Path.{_≡_};
 ghost use Rattle.cache.specs.Places as place;
@@ -21,27 +22,14 @@ impl Cache {
         tag % 16
     }
 
-    // The cache without the places of a tag.
-    pub fn drop_page(self, tag: u64) -> Cache
-        ensures { λ r. ⌜ r ≡ spec.dropPage tag self ⌝ }
-    {
-        let mut cache = self;
-        let set = Cache::set_of(tag);
-        let i = set as usize;
-        let own = cache.sets[i];
-        let dropped = own.drop_tag(set, tag);
-        cache.sets[i] = dropped;
-        cache
-    }
-
-    // The cache with the places that stay when a root is loaded.
-    pub fn load_root(self) -> Cache
-        ensures { λ r. ⌜ r ≡ spec.loadRoot self ⌝ }
+    // The cache with the places that a drop leaves, every set rewritten.
+    pub fn drop(self, drop: Drop) -> Cache
+        ensures { λ r. ⌜ r ≡ spec.dropCache drop self ⌝ }
     {
         let mut cache = self;
         for i in 0..16 {
             let own = cache.sets[i];
-            let left = own.load_root(i as u64);
+            let left = own.drop(i as u64, drop);
             cache.sets[i] = left;
         }
         cache

@@ -13,7 +13,8 @@ use Rattle.address.specs.Address.{tag}
 use Rattle.walk.specs.declared.Answer.{Answer}
 use Rattle.walk.specs.declared.Answer.the-variants as Answer
 use Rattle.walk.specs.Translate.{numbers}
-use Rattle.cache.specs.Whole.{held, emptyCache, dropPage, loadRoot}
+use Rattle.cache.specs.declared.Drop.the-variants.{Page, Local}
+use Rattle.cache.specs.Whole.{held, emptyCache, dropCache}
 use Rattle.cache.proofs.Laws.{held-drop}
 use Rattle.machine.specs.declared.Call.{Call}
 use Rattle.machine.specs.declared.Call.the-variants as Call
@@ -63,13 +64,13 @@ module _ (m : Machine) (memory : List ℕ) where
 
     -- a walk that drops
     dropped : (r : Answer) → faulted r ≡ true → refused r ≡ true
-        → Leaves m memory this (record { answer = r; machine = withCache m (dropPage (tag address) (m .cache)); memory = memory })
+        → Leaves m memory this (record { answer = r; machine = withCache m (dropCache (Page (tag address)) (m .cache)); memory = memory })
     dropped r fault h =
         record {
           number = named r h;
           bytes = refl;
           registers = refl;
-          places = λ (i : ℕ). rw fault (held-drop (tag address) (m .cache) i);
+          places = λ (i : ℕ). rw fault (held-drop (Page (tag address)) (m .cache) i);
           otherwise = λ no-drop. absurd (false≢true (sym no-drop ∙ fault));
         }
 
@@ -96,7 +97,7 @@ module _ (m : Machine) (memory : List ℕ) where
   call-leaves (Call.Translate address access mode) h = translation address access mode (goes m memory address access mode) h
   call-leaves (Call.Store at value) h = store-leaves at value (inside memory at) h
   call-leaves (Call.LoadRoot value) h =
-      load-leaves (Call.LoadRoot value) (λ r i. refl) (record { settings = withRoot (m .settings) value; cache = loadRoot (m .cache) })
+      load-leaves (Call.LoadRoot value) (λ r i. refl) (record { settings = withRoot (m .settings) value; cache = dropCache Local (m .cache) })
       (judged (withRoot (m .settings) value))
       h
   call-leaves (Call.LoadSettings cr0 cr4 efer width) h =

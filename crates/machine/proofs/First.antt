@@ -25,11 +25,12 @@ use Rattle.walk.specs.Access.{writes}
 use Rattle.walk.specs.Walk.{walkPath, walkAnswer, walkMemory}
 use Rattle.walk.specs.Translate.{asked, answered}
 use Rattle.walk.proofs.Laws.{by-cases}
+use Rattle.cache.specs.declared.Drop.{Drop}
+use Rattle.cache.specs.declared.Drop.the-variants.{Page, Local}
 use Rattle.cache.specs.declared.Place.{Place}
 use Rattle.cache.specs.Places.{setIndex, filledIn}
-use Rattle.cache.specs.Whole.{held, emptyCache, fillCache, loadRoot}
-use Rattle.cache.specs.Whole as Whole
-use Rattle.cache.proofs.Laws.{empty-sixteen, fill-sixteen, drop-sixteen, root-sixteen}
+use Rattle.cache.specs.Whole.{held, emptyCache, fillCache, dropCache}
+use Rattle.cache.proofs.Laws.{empty-sixteen, fill-sixteen, drop-sixteen}
 use Rattle.machine.specs.declared.Call.{Call}
 use Rattle.machine.specs.declared.Call.the-variants as Call
 use Rattle.machine.specs.declared.Machine.{Machine}
@@ -45,7 +46,7 @@ use Rattle.machine.proofs.Asked.{Due, due, served-wide}
 use Rattle.machine.proofs.Translations.{not-accepted, Goes, quiet, hits, fills, filledResult, goes}
 use Rattle.machine.proofs.Translations as Ways
 use Rattle.machine.proofs.Lists.{Has}
-use Rattle.machine.proofs.Sound.{Own, Sound, known-all, noted-quiet, noted-other, noted-walk, dropped-own, dropped-any, emptied, filled-own, filled-other, rooted}
+use Rattle.machine.proofs.Sound.{Own, Sound, forgotten, known-all, known-by, noted-quiet, noted-drop, noted-other, noted-walk, dropped, emptied, filled-own, filled-other, root-alike}
 
 module _ (t size : ℕ) (m : Machine) (memory : List ℕ) (w : Latest) (sound : Sound t size (record { machine = m; memory = memory }) w) where
   abbrev s : Settings
@@ -62,21 +63,16 @@ module _ (t size : ℕ) (m : Machine) (memory : List ℕ) (w : Latest) (sound : 
       subst (Sound t size (record { machine = m; memory = after })) (sym same)
       (record { sixteen = sound .sixteen; as-long = long ∙ sound .as-long; backed = sound .backed })
 
-  -- a drop of a page, after which the same is known of every other
-  after-drop : (u : ℕ) (known : Latest) → (eqb u t ≡ false → known ≡ w)
-      → Sound t size (record { machine = withCache m (Whole.dropPage u (m .cache)); memory = memory }) known
-  after-drop u known same-known =
-      record { sixteen = drop-sixteen u (m .cache) (sound .sixteen); as-long = sound .as-long; backed = by-cases (eqb u t) own other }
-    where
-      own : eqb u t ≡ true → Has (Own t s size known) (held (setIndex t) (Whole.dropPage u (m .cache)))
-      own same =
-          subst (λ (v : ℕ). Has (Own t s size known) (held (setIndex t) (Whole.dropPage v (m .cache)))) (sym (eqb-true u t same))
-          (dropped-own t size s known (m .cache) (sound .sixteen))
-
-      other : eqb u t ≡ false → Has (Own t s size known) (held (setIndex t) (Whole.dropPage u (m .cache)))
-      other apart =
-          subst (λ (v : Latest). Has (Own t s size v) (held (setIndex t) (Whole.dropPage u (m .cache)))) (sym (same-known apart))
-          (dropped-any t size s w (m .cache) (sound .sixteen) u (sound .backed))
+  -- a drop
+  after-drop : (d : Drop) (known : Latest) → known ≡ forgotten d w
+      → Sound t size (record { machine = withCache m (dropCache d (m .cache)); memory = memory }) known
+  after-drop d known is =
+      record {
+        sixteen = drop-sixteen d (m .cache);
+        as-long = sound .as-long;
+        backed = subst (λ (v : Latest). Has (Own t s size v) (held (setIndex t) (dropCache d (m .cache)))) (sym is)
+            (dropped t size s s (record { cr0-same = refl; cr4-same = refl; efer-same = refl; width-same = refl }) d w (m .cache) (sound .backed));
+      }
 
   module _ (address : VirtAddr) (access mode : ℕ) where
     abbrev this : Call
@@ -136,7 +132,7 @@ module _ (t size : ℕ) (m : Machine) (memory : List ℕ) (w : Latest) (sound : 
         other : eqb (tag address) t ≡ false → Has (Own t s size (noted t s memory this r left w)) (held (setIndex t) (fillCache new (m .cache)))
         other apart =
             subst (λ (v : Latest). Has (Own t s size v) (held (setIndex t) (fillCache new (m .cache))))
-            (sym (noted-other t s memory left address access mode r w apart))
+            (sym (noted-other t s memory left address access mode r w apart refl))
             (filled-other t size s w (m .cache) (sound .sixteen) new (eqb-false (tag address) t apart) is-filled (sound .backed))
 
     -- a translation
@@ -147,14 +143,15 @@ module _ (t size : ℕ) (m : Machine) (memory : List ℕ) (w : Latest) (sound : 
         subst (Next this) (sym is) (unchanged this (hit address p) memory refl (noted-quiet t s memory memory address access mode (hit address p) w refl refl))
     translation (fills a f on found is fresh-is left-is) = subst (Next this) (sym is) (after-fill a f on found)
     translation (Ways.drops r no-success fault is fresh-is left-is) =
-        subst (Next this) (sym is) (after-drop (tag address) (noted t s memory this r memory w) (noted-other t s memory memory address access mode r w))
+        subst (Next this) (sym is)
+        (after-drop (Page (tag address)) (noted t s memory this r memory w) (noted-drop t s memory memory address access mode r w no-success fault))
 
   -- a store
   after-store : (at value : ℕ) → Next (Call.Store at value) (step m memory (Call.Store at value))
   unfolding step Calls.storedResult
   after-store at value =
       unchanged (Call.Store at value) (cond (inside memory at) done (Answer.Outside (record { 0 = at }) 0 0)) (stored memory at value) (long (inside memory at))
-      (known-all t (Call.Store at value) (cond (inside memory at) done (Answer.Outside (record { 0 = at }) 0 0)) w (λ v. refl))
+      (known-all s (Call.Store at value) (cond (inside memory at) done (Answer.Outside (record { 0 = at }) 0 0)) w (λ v. refl))
     where
       long : (b : Bool) → length (cond b (store 8 memory at value) memory) ≡ length memory
       long true = store-length 8 memory at value
@@ -166,16 +163,18 @@ module _ (t size : ℕ) (m : Machine) (memory : List ℕ) (w : Latest) (sound : 
   after-root value = go (judged (withRoot s value))
     where
       go : (x : Service) → Next (Call.LoadRoot value)
-          (record { answer = loadAnswer x; machine = ifServed x (record { settings = withRoot s value; cache = loadRoot (m .cache) }) m; memory = memory })
+          (record { answer = loadAnswer x; machine = ifServed x (record { settings = withRoot s value; cache = dropCache Local (m .cache) }) m; memory = memory })
       go Served =
           record {
-            sixteen = root-sixteen (m .cache);
+            sixteen = drop-sixteen Local (m .cache);
             as-long = sound .as-long;
-            backed = rooted t size s value w done (m .cache) (sound .sixteen) refl (sound .backed);
+            backed = subst (λ (v : Latest). Has (Own t (withRoot s value) size v) (held (setIndex t) (dropCache Local (m .cache))))
+                (sym (known-by s (Call.LoadRoot value) done Local w (λ v. refl)))
+                (dropped t size s (withRoot s value) (root-alike s value) Local w (m .cache) (sound .backed));
           }
       go (NotServed why) =
           unchanged (Call.LoadRoot value) (Answer.NotServed why) memory refl
-          (known-all t (Call.LoadRoot value) (Answer.NotServed why) w (λ v. rw (not-accepted why)))
+          (known-all s (Call.LoadRoot value) (Answer.NotServed why) w (λ v. rw (not-accepted why)))
 
   -- a settings load
   after-settings : (cr0 cr4 efer width : ℕ) → Next (Call.LoadSettings cr0 cr4 efer width) (step m memory (Call.LoadSettings cr0 cr4 efer width))
@@ -189,17 +188,17 @@ module _ (t size : ℕ) (m : Machine) (memory : List ℕ) (w : Latest) (sound : 
             sixteen = empty-sixteen;
             as-long = sound .as-long;
             backed =
-                emptied t size (withSettings s cr0 cr4 efer width) (stillKnown t (Call.LoadSettings cr0 cr4 efer width) done w) (m .cache) (sound .sixteen);
+                emptied t size (withSettings s cr0 cr4 efer width) (stillKnown s (Call.LoadSettings cr0 cr4 efer width) done w) (m .cache) (sound .sixteen);
           }
       go (NotServed why) =
           unchanged (Call.LoadSettings cr0 cr4 efer width) (Answer.NotServed why) memory refl
-          (known-all t (Call.LoadSettings cr0 cr4 efer width) (Answer.NotServed why) w (λ v. not-accepted why))
+          (known-all s (Call.LoadSettings cr0 cr4 efer width) (Answer.NotServed why) w (λ v. not-accepted why))
 
   -- "drop all"
   after-all : Next Call.DropAll (step m memory Call.DropAll)
   unfolding step Calls.allDropped
   after-all =
-      record { sixteen = empty-sixteen; as-long = sound .as-long; backed = emptied t size s (stillKnown t Call.DropAll done w) (m .cache) (sound .sixteen) }
+      record { sixteen = empty-sixteen; as-long = sound .as-long; backed = emptied t size s (stillKnown s Call.DropAll done w) (m .cache) (sound .sixteen) }
 
   -- "drop page"
   after-page : (address : VirtAddr) → Next (Call.DropPage address) (step m memory (Call.DropPage address))
@@ -207,10 +206,11 @@ module _ (t size : ℕ) (m : Machine) (memory : List ℕ) (w : Latest) (sound : 
   after-page address = go (canonical address) refl
     where
       go : (b : Bool) → canonical address ≡ b → Next (Call.DropPage address)
-          (record { answer = done; machine = cond b (withCache m (Whole.dropPage (tag address) (m .cache))) m; memory = memory })
+          (record { answer = done; machine = cond b (withCache m (dropCache (Page (tag address)) (m .cache))) m; memory = memory })
       go true form =
-          after-drop (tag address) (stillKnown t (Call.DropPage address) done w) (λ apart. known-all t (Call.DropPage address) done w (λ v. rw (form, apart)))
-      go false form = unchanged (Call.DropPage address) done memory refl (known-all t (Call.DropPage address) done w (λ v. rw form))
+          after-drop (Page (tag address)) (stillKnown s (Call.DropPage address) done w)
+          (known-by s (Call.DropPage address) done (Page (tag address)) w (λ v. rw form))
+      go false form = unchanged (Call.DropPage address) done memory refl (known-all s (Call.DropPage address) done w (λ v. rw form))
 
   -- every call
   after-call : (c : Call) → Next c (step m memory c)

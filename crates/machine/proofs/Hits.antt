@@ -22,7 +22,7 @@ use Rattle.walk.specs.Path.{Path, Entry, path, entries, reads, rights, marks, e
 use Rattle.walk.specs.Walk.{walked, after, walkPath, walkAnswer, walkMemory}
 use Rattle.walk.specs.Translate.{answered}
 use Rattle.cache.specs.declared.Place.{Place}
-use Rattle.cache.specs.Places.{hasG, serves}
+use Rattle.cache.specs.Places.{keyOf, serves}
 use Rattle.cache.proofs.Laws.{serves-has}
 use Rattle.cache.proofs.Lists.{and-true}
 use Rattle.machine.specs.Remember.{wanted, placeOf, hit}
@@ -36,7 +36,7 @@ use Rattle.machine.proofs.Paths.{All, refreshed}
 use Rattle.machine.proofs.Reading.{Ending}
 use Rattle.machine.proofs.Rules.{number-write, number-user, number-fetch, given-allow, given-there}
 use Rattle.machine.proofs.Rewalk.{Success, succeeds, end-now, rights-now, memory-now}
-use Rattle.machine.proofs.Places.{Alike, root-aligned, its, its-ending, found-memory, found-global}
+use Rattle.machine.proofs.Places.{Alike, root-aligned, its, its-ending, found-memory, found-key}
 
 -- what the entries read hold only grew
 holds-grew : (m after : List ℕ) (es : List Entry) → Holds m (leftIn after es)
@@ -58,12 +58,12 @@ pub record Backs (s : Settings) (size : ℕ) (w : Walk) (p : Place) : Type 0 whe
   pub is-place : p ≡ placeOf under at how found
   pub is-walk : w ≡ walkOf under at memory (walkMemory under at how memory)
 
--- the place's G is the walk's
-pub backs-global : (s : Settings) (size : ℕ) (w : Walk) (p : Place) → Backs s size w p → hasG p ≡ w .global
-backs-global s size w p k =
-    ap (λ (q : Place). hasG q) (k .is-place)
-    ∙ found-global (k .under) (k .at) (k .how) (k .memory) (k .found) (k .walk-found) (walkMemory (k .under) (k .at) (k .how) (k .memory))
-    ∙ ap (λ (v : Walk). v .global) (sym (k .is-walk))
+-- the place's key is the walk's
+pub backs-key : (s : Settings) (size : ℕ) (w : Walk) (p : Place) → Backs s size w p → keyOf p ≡ w .key
+backs-key s size w p k =
+    ap keyOf (k .is-place)
+    ∙ found-key (k .under) (k .at) (k .how) (k .memory) (k .found) (k .walk-found) (walkMemory (k .under) (k .at) (k .how) (k .memory))
+    ∙ ap (λ (v : Walk). v .key) (sym (k .is-walk))
 
 -- A hit where each entry holds what the walk left: the fresh walk gives the same, and marks nothing.
 module _ (s under : Settings) (alike : Alike under s) (wide : 7 ≤ under .width) (same-root : root s ≡ root under)

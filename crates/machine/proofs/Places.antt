@@ -1,4 +1,4 @@
--- The place that a successful walk leaves: it is filled, serves the same access again, and has the G of the walk's page.
+-- The place that a successful walk leaves: it is filled, serves the same access again, and has the walk's key.
 use Prim.Native.Nat.{ℕ, _%_, _≤_}
 use native.Mathlib.Omega.{arith}
 use mathlib.Core.Path.{_≡_, refl, sym, ap, subst, _∙_}
@@ -16,10 +16,10 @@ use Rattle.walk.specs.declared.Walked.the-variants.{Mapped}
 use Rattle.walk.specs.Access.{needsWrite, needed, writes, fetches}
 use Rattle.walk.specs.Path.{Path, entries, endOf, reads, rights, marks, every}
 use Rattle.walk.specs.Walk.{after, walkPath, walkAnswer, walkMemory}
-use Rattle.cache.specs.Places.{hasG, setIndex, filledIn, serves}
+use Rattle.cache.specs.Places.{hasG, keyOf, setIndex, filledIn, serves}
 use Rattle.cache.proofs.Laws.{has-filled, has-serves}
 use Rattle.machine.specs.Remember.{withDirty, wanted, placeOf}
-use Rattle.machine.specs.History.{isGlobal, walkOf}
+use Rattle.machine.specs.History.{keyAt, walkOf}
 use Rattle.machine.proofs.Flags.{given, flags-marked, flags-global, flags-each}
 use Rattle.machine.proofs.Frames.{frame-small, tag-small}
 use Rattle.machine.proofs.Paths.{All}
@@ -118,8 +118,12 @@ module _ (s : Settings) (va : VirtAddr) (a : Way) (m : List ℕ) (found : Mappin
             dirty-given (bit (found .last) 6) (writes a),
           )
 
-  -- its G is that of the walk's page
-  pub found-global : (left : List ℕ) → hasG (placeOf s va a found) ≡ walkOf s va m left .global
-  found-global left =
-      flags-global (bit (found .rights) 0) (bit (found .rights) 1) (bit (found .rights) 2) (bit (found .last) 6 || writes a) (bit (found .last) 8 && pge s)
-      ∙ ap (λ (f : Mapping). bit (f .last) 8 && pge s) (its .is-found) ∙ ap (isGlobal s) (sym (its .at-end))
+  -- its key is that of the walk
+  pub found-key : (left : List ℕ) → keyOf (placeOf s va a found) ≡ walkOf s va m left .key
+  found-key left =
+      (λ i. record { tag = tag va; size = its .is-found i .size; global = its-global i }) ∙ ap (keyAt s va) (sym (its .at-end))
+    where
+      its-global : hasG (placeOf s va a found) ≡ (bit (its .last .value) 8 && pge s)
+      its-global =
+          flags-global (bit (found .rights) 0) (bit (found .rights) 1) (bit (found .rights) 2) (bit (found .last) 6 || writes a) (bit (found .last) 8 && pge s)
+          ∙ ap (λ (f : Mapping). bit (f .last) 8 && pge s) (its .is-found)

@@ -16,7 +16,7 @@ use Rattle.walk.specs.Walk.{walkAnswer, walkMemory}
 use Rattle.walk.specs.Translate.{asked, answered, numbers}
 use Rattle.cache.specs.declared.Found.the-variants as Found
 use Rattle.cache.specs.declared.Place.{Place}
-use Rattle.cache.specs.Places.{hasG, setIndex, filledIn, spares}
+use Rattle.cache.specs.Places.{keyOf, setIndex, filledIn, spares}
 use Rattle.cache.specs.Sets.{keep}
 use Rattle.cache.specs.Whole.{held, fillCache}
 use Rattle.cache.proofs.Laws.{findCache, Sixteen, fill-sixteen, held-fill}
@@ -30,7 +30,7 @@ use Rattle.machine.specs.Calls as Calls
 use Rattle.machine.specs.Series.{Event, Stand, gives, run, start}
 use Rattle.machine.specs.History.{Walk, none, walkOf, succeeded, drops}
 use Rattle.machine.specs.Demand3.{others, Between, again, SecondHalf}
-use Rattle.machine.proofs.Places.{found-filled, found-serves, found-global}
+use Rattle.machine.proofs.Places.{found-filled, found-serves, found-key}
 use Rattle.machine.proofs.Asked.{Due, due, due-again}
 use Rattle.machine.proofs.Translations.{Goes, quiet, hits, fills, filledResult, goes}
 use Rattle.machine.proofs.Translations as Ways
@@ -82,8 +82,8 @@ module _ (now : Stand) (sixteen : Sixteen (now .machine .cache)) (first later : 
       its-walk : Walk
       its-walk = walkOf s first (now .memory) (walkMemory s first a (now .memory))
 
-      its-global : hasG (placeOf s first a f) ≡ its-walk .global
-      its-global = found-global s first a (now .memory) f found (walkMemory s first a (now .memory))
+      its-key : keyOf (placeOf s first a f) ≡ its-walk .key
+      its-key = found-key s first a (now .memory) f found (walkMemory s first a (now .memory))
 
       is-due : Due s first access mode a
       is-due = due s first access mode a on
@@ -91,7 +91,7 @@ module _ (now : Stand) (sixteen : Sixteen (now .machine .cache)) (first later : 
       is-filled : filledIn (setIndex (tag first)) (placeOf s first a f) ≡ true
       is-filled = found-filled s first a (now .memory) f found (is-due .is-canonical)
 
-      at-first : Remembers (tag first) pages at-most (placeOf s first a f) refl its-walk its-global s filled-now
+      at-first : Remembers (tag first) pages at-most (placeOf s first a f) refl its-walk its-key s filled-now
       at-first =
           record {
             stays-in = record {
@@ -106,9 +106,9 @@ module _ (now : Stand) (sixteen : Sixteen (now .machine .cache)) (first later : 
             serving = is-due .is-served;
           }
 
-      at-end : Remembers (tag first) pages at-most (placeOf s first a f) refl its-walk its-global s (end .machine)
+      at-end : Remembers (tag first) pages at-most (placeOf s first a f) refl its-walk its-key s (end .machine)
       at-end =
-          remembered (tag first) pages at-most (placeOf s first a f) refl its-walk its-global s
+          remembered (tag first) pages at-most (placeOf s first a f) refl its-walk its-key s
           (record { machine = filled-now; memory = walkMemory s first a (now .memory) }) between at-first
           spared
 
@@ -117,7 +117,7 @@ module _ (now : Stand) (sixteen : Sixteen (now .machine .cache)) (first later : 
 
       find-later : findCache (wanted (end .machine .settings) later a) (end .machine .cache) ≡ Found.At (placeOf s first a f)
       find-later =
-          found-again (tag first) pages at-most (placeOf s first a f) refl its-walk its-global s (end .machine) (wanted (end .machine .settings) later a) same
+          found-again (tag first) pages at-most (placeOf s first a f) refl its-walk its-key s (end .machine) (wanted (end .machine .settings) later a) same
           (found-serves s first a (now .memory) f found (end .machine .settings) later (at-end .alike) (sym same)) at-end
 
   promised : Goes (now .machine) (now .memory) first access mode → Promise (gives now (Call.Translate first access mode))

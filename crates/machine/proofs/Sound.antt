@@ -2,8 +2,9 @@
 use Prim.Native.Nat.{ℕ}
 use native.Mathlib.Decide.{ℕ-discrete}
 use mathlib.Core.Path.{_≡_, refl, sym, ap, subst, _∙_}
-use mathlib.Core.Bool.{Bool, true, false, not, _&&_, cond, false≢true}
+use mathlib.Core.Bool.{Bool, true, false, _&&_, cond, false≢true}
 use mathlib.Core.List.{List, _∷_}
+use borrow.Author.Tests.{not-true}
 use lib.Dec.{eqb}
 use lib.ListN.{length}
 use Rattle.settings.specs.declared.Settings.{Settings}
@@ -11,20 +12,21 @@ use Rattle.address.specs.declared.VirtAddr.{VirtAddr}
 use Rattle.address.specs.Address.{tag}
 use Rattle.walk.specs.declared.Answer.{Answer}
 use Rattle.cache.specs.declared.Cache.{Cache}
+use Rattle.cache.specs.declared.Drop.{Drop}
+use Rattle.cache.specs.declared.Drop.the-variants.{Page}
 use Rattle.cache.specs.declared.Place.{Place}
-use Rattle.cache.specs.Places.{setIndex, filledIn, otherTag, spares, stays}
+use Rattle.cache.specs.Places.{setIndex, filledIn, keyOf, takes, left, spares}
 use Rattle.cache.specs.Sets.{keep}
-use Rattle.cache.specs.Whole.{held, emptyCache, fillCache, loadRoot}
-use Rattle.cache.specs.Whole as Whole
-use Rattle.cache.proofs.Laws.{Sixteen, held-empty, held-fill, held-fill-other, held-drop, held-root, drop-takes, fill-takes, root-takes}
+use Rattle.cache.specs.Whole.{held, emptyCache, fillCache, dropCache}
+use Rattle.cache.proofs.Laws.{Sixteen, held-empty, held-fill, held-fill-other, held-drop, fill-takes}
 use Rattle.machine.specs.declared.Call.{Call}
 use Rattle.machine.specs.declared.Call.the-variants as Call
 use Rattle.machine.specs.Calls.{withRoot}
 use Rattle.machine.specs.Series.{Stand}
 use Rattle.machine.specs.Demand1.{faulted}
-use Rattle.machine.specs.History.{Walk, Latest, none, walk, walkOf, succeeded, accepted, drops, stillKnown, noted}
+use Rattle.machine.specs.History.{Walk, Latest, none, walk, walkOf, succeeded, drops, stillKnown, noted}
 use Rattle.machine.proofs.Places.{Alike}
-use Rattle.machine.proofs.Hits.{Backs, backs-global}
+use Rattle.machine.proofs.Hits.{Backs, backs-key}
 use Rattle.machine.proofs.Lists.{Has, has-keep, has-take, keep-has}
 
 -- a place is backed by the latest walk of its page
@@ -45,23 +47,35 @@ pub record Sound (t size : ℕ) (now : Stand) (w : Latest) : Type 0 where
 -- What is known of a page after a call.
 
 -- a call that drops nothing leaves what is known
-pub known-all : (t : ℕ) (c : Call) (r : Answer) (w : Latest) → ((v : Walk) → drops t v c r ≡ false) → stillKnown t c r w ≡ w
-known-all t c r none h = refl
-known-all t c r (walk v) h = ap (λ (b : Bool). cond b none (walk v)) (h v)
+pub known-all : (s : Settings) (c : Call) (r : Answer) (w : Latest) → ((v : Walk) → drops s v c r ≡ false) → stillKnown s c r w ≡ w
+known-all s c r none h = refl
+known-all s c r (walk v) h = ap (λ (b : Bool). cond b none (walk v)) (h v)
+
+-- what a drop leaves of what is known
+abbrev pub forgotten : Drop → Latest → Latest
+forgotten d none = none
+forgotten d (walk w) = cond (takes d (w .key)) none (walk w)
+
+pub known-by : (s : Settings) (c : Call) (r : Answer) (d : Drop) (w : Latest) → ((v : Walk) → drops s v c r ≡ takes d (v .key)) → stillKnown s c r w ≡ forgotten d w
+known-by s c r d none h = refl
+known-by s c r d (walk v) h = ap (λ (b : Bool). cond b none (walk v)) (h v)
 
 module _ (t : ℕ) (s : Settings) (before after : List ℕ) (address : VirtAddr) (access mode : ℕ) (r : Answer) (w : Latest) where
   abbrev this : Call
   this = Call.Translate address access mode
 
-  pub noted-quiet : succeeded r ≡ false → faulted r ≡ false → noted t s before this r after w ≡ w
-  noted-quiet no-success no-fault = go (eqb (tag address) t) refl
-    where
-      go : (b : Bool) → eqb (tag address) t ≡ b → cond (b && succeeded r) (walk (walkOf s address before after)) (stillKnown t this r w) ≡ w
-      go true e = rw no-success (known-all t this r w (λ v. rw (e, no-fault)))
-      go false e = known-all t this r w (λ v. rw e)
+  no-walk : (b : Bool) → succeeded r ≡ false → cond (b && succeeded r) (walk (walkOf s address before after)) (stillKnown s this r w) ≡ stillKnown s this r w
+  no-walk true h = rw h
+  no-walk false h = refl
 
-  pub noted-other : eqb (tag address) t ≡ false → noted t s before this r after w ≡ w
-  noted-other e = rw e (known-all t this r w (λ v. rw e))
+  pub noted-quiet : succeeded r ≡ false → faulted r ≡ false → noted t s before this r after w ≡ w
+  noted-quiet no-success no-fault = no-walk (eqb (tag address) t) no-success ∙ known-all s this r w (λ v. rw no-fault)
+
+  pub noted-drop : succeeded r ≡ false → faulted r ≡ true → noted t s before this r after w ≡ forgotten (Page (tag address)) w
+  noted-drop no-success fault = no-walk (eqb (tag address) t) no-success ∙ known-by s this r (Page (tag address)) w (λ v. rw fault)
+
+  pub noted-other : eqb (tag address) t ≡ false → faulted r ≡ false → noted t s before this r after w ≡ w
+  noted-other e no-fault = rw e (known-all s this r w (λ v. rw no-fault))
 
   pub noted-walk : eqb (tag address) t ≡ true → succeeded r ≡ true → noted t s before this r after w ≡ walk (walkOf s address before after)
   noted-walk e success = rw (e, success)
@@ -72,17 +86,6 @@ pub contradiction {ℓ} : {X : Type ℓ} {b : Bool} → b ≡ true → b ≡ fal
 contradiction yes-it no-it = absurd (false≢true (sym no-it ∙ yes-it))
 
 module _ (t size : ℕ) (s : Settings) (w : Latest) (c : Cache) (sixteen : Sixteen c) where
-  -- a drop of the page leaves none of its places
-  pub dropped-own : Has (Own t s size w) (held (setIndex t) (Whole.dropPage t c))
-  dropped-own =
-      subst (Has (Own t s size w)) (sym (held-drop t c (setIndex t)))
-      (keep-has (otherTag t) (λ p other same. contradiction other (drop-takes t p same)) (held (setIndex t) c))
-
-  -- a drop of any page leaves what is backed
-  pub dropped-any : (u : ℕ) → Has (Own t s size w) (held (setIndex t) c) → Has (Own t s size w) (held (setIndex t) (Whole.dropPage u c))
-  dropped-any u h =
-      subst (Has (Own t s size w)) (sym (held-drop u c (setIndex t))) (has-keep (otherTag u) (λ p other own. own) (held (setIndex t) c) h)
-
   -- nothing is held in the empty cache
   pub emptied : Has (Own t s size w) (held (setIndex t) emptyCache)
   emptied = subst (Has (Own t s size w)) (sym (held-empty (setIndex t))) tt
@@ -135,22 +138,16 @@ alike-backs s s′ size w p alike k =
 pub root-alike : (s : Settings) (value : ℕ) → Alike s (withRoot s value)
 root-alike s value = record { cr0-same = refl; cr4-same = refl; efer-same = refl; width-same = refl }
 
--- a root load leaves what is backed by a walk of a G page, and forgets the walk of any other
-pub rooted : (t size : ℕ) (s : Settings) (value : ℕ) (w : Latest) (r : Answer) (c : Cache) → Sixteen c → accepted r ≡ true → Has (Own t s size w) (held (setIndex t) c)
-    → Has (Own t (withRoot s value) size (stillKnown t (Call.LoadRoot value) r w)) (held (setIndex t) (loadRoot c))
-rooted t size s value w r c sixteen ok h =
-    subst (Has (Own t (withRoot s value) size (stillKnown t (Call.LoadRoot value) r w))) (sym (held-root c (setIndex t) sixteen))
-    (has-keep stays (stay w) (held (setIndex t) c) h)
+-- a drop leaves what is backed by a walk that it does not take, and forgets the walk that it takes
+pub dropped : (t size : ℕ) (s s′ : Settings) → Alike s s′ → (d : Drop) (w : Latest) (c : Cache) → Has (Own t s size w) (held (setIndex t) c)
+    → Has (Own t s′ size (forgotten d w)) (held (setIndex t) (dropCache d c))
+dropped t size s s′ alike d w c h =
+    subst (Has (Own t s′ size (forgotten d w))) (sym (held-drop d c (setIndex t))) (has-keep (left d) (λ p kept own same. stay w p kept (own same)) (held (setIndex t) c) h)
   where
-    stay : (w : Latest) (p : Place) → stays p ≡ true → Own t s size w p → Own t (withRoot s value) size (stillKnown t (Call.LoadRoot value) r w) p
-    stay none p is-global own same = own same
-    stay (walk v) p is-global own same = go (v .global) refl (own same)
+    stay : (w : Latest) (p : Place) → left d p ≡ true → Backed s size w p → Backed s′ size (forgotten d w) p
+    stay none p kept back = back
+    stay (walk v) p kept back =
+        subst (λ (b : Bool). Backed s′ size (cond b none (walk v)) p) (sym spared) (alike-backs s s′ size v p alike back)
       where
-        spared : v .global ≡ true → drops t v (Call.LoadRoot value) r ≡ false
-        spared e = rw ok (ap not e)
-
-        go : (b : Bool) → v .global ≡ b → Backs s size v p → Backed (withRoot s value) size (stillKnown t (Call.LoadRoot value) r (walk v)) p
-        go true e k =
-            subst (λ (d : Bool). Backed (withRoot s value) size (cond d none (walk v)) p) (sym (spared e))
-            (alike-backs s (withRoot s value) size v p (root-alike s value) k)
-        go false e k = contradiction (sym (root-takes p) ∙ is-global) (backs-global s size v p k ∙ e)
+        spared : takes d (v .key) ≡ false
+        spared = ap (takes d) (sym (backs-key s size v p back)) ∙ not-true (takes d (keyOf p)) kept

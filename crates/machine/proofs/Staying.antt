@@ -5,7 +5,7 @@ use native.Mathlib.Omega.{arith}
 use mathlib.Core.Path.{_≡_, refl, sym, ap, ap₂, subst, _∙_}
 use mathlib.Core.Bool.{Bool, true, false, not, _&&_, _||_, cond, false≢true}
 use mathlib.Core.List.{List, [], _∷_, _++_}
-use borrow.Author.Tests.{eqb-false, eq-eqb, ne-eqb, not-false}
+use borrow.Author.Tests.{eqb-false, eq-eqb, ne-eqb}
 use lib.Dec.{eqb}
 use lib.ListN.{length, take}
 use Rattle.settings.specs.declared.Settings.{Settings}
@@ -15,17 +15,17 @@ use Rattle.settings.specs.Settings.{served, judged}
 use Rattle.address.specs.declared.VirtAddr.{VirtAddr}
 use Rattle.address.specs.Address.{tag, canonical}
 use Rattle.walk.specs.declared.Answer.the-variants as Answer
-use Rattle.walk.proofs.Laws.{by-cases}
 use Rattle.walk.proofs.Asking.{judged-served}
 use Rattle.cache.specs.declared.Cache.{Cache}
+use Rattle.cache.specs.declared.Drop.{Drop}
+use Rattle.cache.specs.declared.Drop.the-variants.{Page, Local}
 use Rattle.cache.specs.declared.Found.the-variants as Found
 use Rattle.cache.specs.declared.Place.{Place}
 use Rattle.cache.specs.declared.Wanted.{Wanted}
-use Rattle.cache.specs.Places.{hasG, setIndex, filledIn, otherTag, spares, stays, serves}
+use Rattle.cache.specs.Places.{keyOf, setIndex, filledIn, takes, left, otherTag, spares, serves}
 use Rattle.cache.specs.Sets.{keep, firstServing}
-use Rattle.cache.specs.Whole.{held, emptyCache, fillCache, loadRoot}
-use Rattle.cache.specs.Whole as Whole
-use Rattle.cache.proofs.Laws.{findCache, Sixteen, fill-sixteen, drop-sixteen, root-sixteen, held-fill, held-fill-other, held-drop, held-root, drop-leaves, fill-leaves, root-takes, find-cache, other-serves-not}
+use Rattle.cache.specs.Whole.{held, emptyCache, fillCache, dropCache}
+use Rattle.cache.proofs.Laws.{findCache, Sixteen, fill-sixteen, drop-sixteen, held-fill, held-fill-other, held-drop, tag-other, fill-leaves, find-cache, other-serves-not}
 use Rattle.cache.proofs.Lists.{Each, each-keep, each-kept, each-weaker, passed-by}
 use Rattle.machine.specs.declared.Call.{Call}
 use Rattle.machine.specs.declared.Call.the-variants as Call
@@ -41,7 +41,6 @@ use Rattle.machine.proofs.Places.{Alike, found-reads, found-filled}
 use Rattle.machine.proofs.Asked.{due}
 use Rattle.machine.proofs.Translations.{Goes, quiet, hits, fills, goes}
 use Rattle.machine.proofs.Translations as Ways
-use Rattle.machine.proofs.Sound.{contradiction}
 use Rattle.machine.proofs.Sets.{Few, few-length, few-keep, keep-around, take-around}
 
 -- a place in its set behind places of few other pages
@@ -58,7 +57,7 @@ spared-others : (q : Place) (ps : List Place) → Each (otherTag (q .tag)) (keep
 unfolding spares
 spared-others q ps = each-keep (otherTag (q .tag)) ps
 
-module _ (t : ℕ) (pages : List ℕ) (at-most : length pages ≤ others) (p : Place) (own : p .tag ≡ t) (w : Walk) (same-global : hasG p ≡ w .global) where
+module _ (t : ℕ) (pages : List ℕ) (at-most : length pages ≤ others) (p : Place) (own : p .tag ≡ t) (w : Walk) (same-key : keyOf p ≡ w .key) where
   -- a filter of the set that keeps the place
   filtered : (test : Place → Bool) (c c′ : Cache) → test p ≡ true → Sixteen c′ → held (setIndex t) c′ ≡ keep test (held (setIndex t) c)
       → Stays t pages p c → Stays t pages p c′
@@ -72,16 +71,10 @@ module _ (t : ℕ) (pages : List ℕ) (at-most : length pages ≤ others) (p : P
         apart = each-kept (otherTag t) test (k .front) (k .apart);
       }
 
-  -- a drop of another page
-  drop-stays : (u : ℕ) (c : Cache) → (t ≡ u → ⊥) → Stays t pages p c → Stays t pages p (Whole.dropPage u c)
-  drop-stays u c other k =
-      filtered (otherTag u) c (Whole.dropPage u c) (drop-leaves u p (λ e. other (sym own ∙ e))) (drop-sixteen u c (k .sixteen))
-      (held-drop u c (setIndex t)) k
-
-  -- a root load, where the page is G
-  root-stays : (c : Cache) → hasG p ≡ true → Stays t pages p c → Stays t pages p (loadRoot c)
-  root-stays c is-global k =
-      filtered stays c (loadRoot c) (root-takes p ∙ is-global) (root-sixteen c) (held-root c (setIndex t) (k .sixteen)) k
+  -- a drop that does not take the walk's place
+  drop-stays : (d : Drop) (c : Cache) → takes d (w .key) ≡ false → Stays t pages p c → Stays t pages p (dropCache d c)
+  drop-stays d c spared k =
+      filtered (left d) c (dropCache d c) (ap not (ap (takes d) same-key ∙ spared)) (drop-sixteen d c) (held-drop d c (setIndex t)) k
 
   -- a fill of another page, which is one of the list where it is of the same set
   fill-stays : (q : Place) (c : Cache) → (t ≡ q .tag → ⊥) → filledIn (setIndex (q .tag)) q ≡ true
@@ -104,7 +97,7 @@ module _ (t : ℕ) (pages : List ℕ) (at-most : length pages ≤ others) (p : P
                 ∙ ap (λ (l : List Place). take 4 (q ∷ l)) (keep-around (spares q) (k .front) p (k .rest) (fill-leaves q p (λ e. other (sym own ∙ e))))
                 ∙ fits .1;
             few = few′;
-            apart = (drop-leaves t q (λ e. other (sym e)), each-kept (otherTag t) (spares q) (k .front) (k .apart));
+            apart = (tag-other t q (λ e. other (sym e)), each-kept (otherTag t) (spares q) (k .front) (k .apart));
           }
       go (no elsewhere) =
           record {
@@ -129,7 +122,7 @@ module _ (t : ℕ) (pages : List ℕ) (at-most : length pages ≤ others) (p : P
     module _ (m : Machine) (memory : List ℕ) (k : Remembers m) where
       -- a call that spares the page
       abbrev Spared : Call → Result → Type 0
-      Spared c r = drops t w c (r .answer) ≡ false → asks t c ≡ false → counted t pages c (r .answer) ≡ true → Remembers (r .machine)
+      Spared c r = drops (m .settings) w c (r .answer) ≡ false → asks t c ≡ false → counted t pages c (r .answer) ≡ true → Remembers (r .machine)
 
       -- another page that a walk with success put in the same set is one of the list
       counts : (u : ℕ) (success : Bool) → success ≡ true → (not (success && eqb (setIndex u) (setIndex t)) || among u pages) ≡ true
@@ -155,8 +148,8 @@ module _ (t : ℕ) (pages : List ℕ) (at-most : length pages ≤ others) (p : P
       translation address access mode (Ways.drops r no-success fault is fresh-is left-is) =
           subst (Spared (Call.Translate address access mode)) (sym is)
           (λ no-drop not-asked counting.
-          with-cache m (Whole.dropPage (tag address) (m .cache)) k
-          (drop-stays (tag address) (m .cache) (λ e. eqb-false (tag address) t not-asked (sym e)) (k .stays-in)))
+          with-cache m (dropCache (Page (tag address)) (m .cache)) k
+          (drop-stays (Page (tag address)) (m .cache) (sym (ap (λ (b : Bool). b && takes (Page (tag address)) (w .key)) fault) ∙ no-drop) (k .stays-in)))
 
       after-store : (at value : ℕ) → Spared (Call.Store at value) (step m memory (Call.Store at value))
       unfolding step Calls.storedResult
@@ -169,12 +162,12 @@ module _ (t : ℕ) (pages : List ℕ) (at-most : length pages ≤ others) (p : P
           go : (x : Service) → judged (withRoot (m .settings) value) ≡ x
               → Spared (Call.LoadRoot value) (record {
                 answer = loadAnswer x;
-                machine = ifServed x (record { settings = withRoot (m .settings) value; cache = loadRoot (m .cache) }) m;
+                machine = ifServed x (record { settings = withRoot (m .settings) value; cache = dropCache Local (m .cache) }) m;
                 memory = memory;
               })
           go Served ok = λ no-drop not-asked counting.
               record {
-                stays-in = root-stays (m .cache) (same-global ∙ not-false (w .global) no-drop) (k .stays-in);
+                stays-in = drop-stays Local (m .cache) no-drop (k .stays-in);
                 alike = record {
                   cr0-same = k .alike .cr0-same;
                   cr4-same = k .alike .cr4-same;
@@ -202,16 +195,10 @@ module _ (t : ℕ) (pages : List ℕ) (at-most : length pages ≤ others) (p : P
       after-page address = go (canonical address) refl
         where
           go : (b : Bool) → canonical address ≡ b
-              → Spared (Call.DropPage address) (record { answer = done; machine = cond b (withCache m (Whole.dropPage (tag address) (m .cache))) m; memory = memory })
+              → Spared (Call.DropPage address) (record { answer = done; machine = cond b (withCache m (dropCache (Page (tag address)) (m .cache))) m; memory = memory })
           go true form no-drop not-asked counting =
-              with-cache m (Whole.dropPage (tag address) (m .cache)) k
-              (drop-stays (tag address) (m .cache) (λ e. eqb-false (tag address) t other (sym e)) (k .stays-in))
-            where
-              dropped : eqb (tag address) t ≡ true → drops t w (Call.DropPage address) done ≡ true
-              dropped same = rw (form, same)
-
-              other : eqb (tag address) t ≡ false
-              other = by-cases (eqb (tag address) t) (λ same. contradiction (dropped same) no-drop) (λ apart. apart)
+              with-cache m (dropCache (Page (tag address)) (m .cache)) k
+              (drop-stays (Page (tag address)) (m .cache) (sym (ap (λ (b : Bool). b && takes (Page (tag address)) (w .key)) form) ∙ no-drop) (k .stays-in))
           go false form no-drop not-asked counting = k
 
       after-all : Spared Call.DropAll (step m memory Call.DropAll)

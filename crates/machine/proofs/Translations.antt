@@ -20,8 +20,9 @@ use Rattle.walk.specs.Walk.{after, walkAnswer, walkMemory}
 use Rattle.walk.specs.Translate.{asked, answered, translated, translatedMemory}
 use Rattle.cache.specs.declared.Found.{Found}
 use Rattle.cache.specs.declared.Found.the-variants as Found
+use Rattle.cache.specs.declared.Drop.the-variants.{Page}
 use Rattle.cache.specs.declared.Place.{Place}
-use Rattle.cache.specs.Whole.{fillCache, dropPage}
+use Rattle.cache.specs.Whole.{fillCache, dropCache}
 use Rattle.cache.proofs.Laws.{findCache}
 use Rattle.machine.specs.declared.Call.{Call}
 use Rattle.machine.specs.declared.Call.the-variants as Call
@@ -76,7 +77,7 @@ module _ (m : Machine) (memory : List ℕ) (address : VirtAddr) (access mode : �
       }
 
   abbrev pub droppedResult : Answer → Result
-  droppedResult r = record { answer = r; machine = withCache m (dropPage (tag address) (m .cache)); memory = memory }
+  droppedResult r = record { answer = r; machine = withCache m (dropCache (Page (tag address)) (m .cache)); memory = memory }
 
   -- a result that changes nothing
   abbrev pub sameResult : Answer → Result

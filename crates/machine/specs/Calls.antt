@@ -16,8 +16,9 @@ use Rattle.walk.specs.declared.Answer.the-variants as Answer
 use Rattle.walk.specs.Walk.{walkAnswer, walkMemory}
 use Rattle.walk.specs.Translate.{answered}
 use Rattle.cache.specs.declared.Cache.{Cache}
+use Rattle.cache.specs.declared.Drop.the-variants.{Page, Local}
 use Rattle.cache.specs.Places.{setIndex}
-use Rattle.cache.specs.Whole.{setAt, emptyCache, dropPage, loadRoot}
+use Rattle.cache.specs.Whole.{setAt, emptyCache, dropCache}
 use Rattle.machine.specs.declared.Call.{Call}
 use Rattle.machine.specs.declared.Call.the-variants as Call
 use Rattle.machine.specs.declared.Machine.{Machine}
@@ -97,7 +98,7 @@ withRoot s value = record { cr0 = s .cr0; cr3 = value; cr4 = s .cr4; efer = s .e
 
 -- "A root load drops all but G places."
 unfoldable pub rootLoaded : Machine → ℕ → Stepped
-rootLoaded m value = loaded m (withRoot (m .settings) value) (loadRoot (m .cache))
+rootLoaded m value = loaded m (withRoot (m .settings) value) (dropCache Local (m .cache))
 
 -- other settings: "CR3 stays"
 abbrev pub withSettings : Settings → ℕ → ℕ → ℕ → ℕ → Settings
@@ -107,9 +108,9 @@ withSettings s cr0 cr4 efer width = record { cr0 = cr0; cr3 = s .cr3; cr4 = cr4;
 unfoldable pub settingsLoaded : Machine → ℕ → ℕ → ℕ → ℕ → Stepped
 settingsLoaded m cr0 cr4 efer width = loaded m (withSettings (m .settings) cr0 cr4 efer width) emptyCache
 
--- "'Drop page' drops the tag of its address, G or not; a non-canonical address changes nothing and answers 0."
+-- "'Drop page' now drops each place whose own page, at its own size, contains the address"; "a non-canonical address changes nothing and answers 0"
 unfoldable pub pageDropped : Machine → VirtAddr → Stepped
-pageDropped m address = record { answer = done; machine = cond (canonical address) (withCache m (dropPage (tag address) (m .cache))) m }
+pageDropped m address = record { answer = done; machine = cond (canonical address) (withCache m (dropCache (Page (tag address)) (m .cache))) m }
 
 -- "'drop all' drops everything and leaves zeros"
 unfoldable pub allDropped : Machine → Stepped

@@ -7,8 +7,9 @@ use lib.Dec.{eqb}
 use Rattle.address.specs.Address.{tag}
 use Rattle.walk.specs.declared.Answer.{Answer}
 use Rattle.walk.specs.Translate.{numbers}
+use Rattle.cache.specs.declared.Drop.the-variants.{Page}
 use Rattle.cache.specs.declared.Place.{Place}
-use Rattle.cache.specs.Places.{otherTag}
+use Rattle.cache.specs.Places.{left}
 use Rattle.cache.specs.Sets.{keep}
 use Rattle.cache.specs.Whole.{held}
 use Rattle.machine.specs.declared.Call.{Call}
@@ -42,9 +43,9 @@ dropsAsked (Call.LoadSettings cr0 cr4 efer width) r = false
 dropsAsked (Call.DropPage address) r = false
 dropsAsked Call.DropAll r = false
 
--- what a refused call leaves of a set's places: the page asked for is dropped, or all stay
+-- what a refused call leaves of a set's places: each piece that covers the address is dropped, "no other place may go"; or all stay
 abbrev pub leaves : Call → Answer → List Place → List Place
-leaves (Call.Translate address access mode) r places = cond (faulted r) (keep (otherTag (tag address)) places) places
+leaves (Call.Translate address access mode) r places = cond (faulted r) (keep (left (Page (tag address))) places) places
 leaves (Call.Store at value) r places = places
 leaves (Call.LoadRoot value) r places = places
 leaves (Call.LoadSettings cr0 cr4 efer width) r places = places

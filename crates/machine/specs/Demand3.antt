@@ -73,7 +73,7 @@ counted t pages Call.DropAll r = true
 abbrev pub Between : ℕ → Walk → List ℕ → Stand → List Event → Type 0
 Between t w pages now [] = Unit
 Between t w pages now (call c ∷ es) =
-    (drops t w c (gives now c .answer) ≡ false)
+    (drops (now .machine .settings) w c (gives now c .answer) ≡ false)
     × (asks t c ≡ false)
     × (counted t pages c (gives now c .answer) ≡ true)
     × Between t w pages (leads now (call c)) es

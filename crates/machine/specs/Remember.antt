@@ -15,9 +15,10 @@ use Rattle.walk.specs.declared.Answer.{Answer}
 use Rattle.walk.specs.declared.Answer.the-variants.{Done}
 use Rattle.walk.specs.Access.{needsWrite, needsUser, writes, fetches}
 use Rattle.cache.specs.declared.Cache.{Cache}
+use Rattle.cache.specs.declared.Drop.the-variants.{Page}
 use Rattle.cache.specs.declared.Place.{Place}
 use Rattle.cache.specs.declared.Wanted.{Wanted}
-use Rattle.cache.specs.Whole.{fillCache, dropPage}
+use Rattle.cache.specs.Whole.{fillCache, dropCache}
 
 -- flags as a number: rights, and 8 for D
 abbrev pub withDirty : ℕ → Bool → ℕ
@@ -45,8 +46,8 @@ placeOf s address a m =
 abbrev pub hit : VirtAddr → Place → Answer
 hit address p = Done (inFrame (p .frame) (offset address 1)) (p .size) 0
 
--- "A success removes all places with that tag [..] and puts the new one first"; a fault or a table outside memory "drops the page asked for"
+-- "A success removes all places with that tag [..] and puts the new one first"; a fault or a table outside memory "drops the page asked for", "by the same rule" as a page drop
 abbrev pub remembered : Settings → Cache → VirtAddr → Way → Walked → Cache
 remembered s c address a (Walked.Mapped found) = fillCache (placeOf s address a found) c
-remembered s c address a (Walked.Refused cause n) = dropPage (tag address) c
-remembered s c address a (Walked.Outside at l n) = dropPage (tag address) c
+remembered s c address a (Walked.Refused cause n) = dropCache (Page (tag address)) c
+remembered s c address a (Walked.Outside at l n) = dropCache (Page (tag address)) c

@@ -5,6 +5,7 @@ use crate::Stepped;
 use address::PhysAddr;
 use address::VirtAddr;
 use cache::Cache;
+use cache::Drop;
 use settings::Service;
 use settings::Settings;
 use walk::Answer;
@@ -74,7 +75,7 @@ impl Machine {
     {
         let settings = self.settings;
         let cache = self.cache;
-        let kept = cache.load_root();
+        let kept = cache.drop(Drop::Local);
         load(
             self,
             Settings {
@@ -119,7 +120,7 @@ impl Machine {
         }
         let settings = self.settings;
         let before = self.cache;
-        let cache = before.drop_page(address.tag());
+        let cache = before.drop(Drop::Page(address.tag()));
         Stepped {
             answer: done(),
             machine: Machine { settings, cache },

@@ -7,6 +7,7 @@ use crate::remember::place_of;
 use crate::remember::wanted;
 use address::VirtAddr;
 use cache::Cache;
+use cache::Drop;
 use cache::Found;
 use cache::Set;
 use settings::Settings;
@@ -56,7 +57,7 @@ pub fn fill(settings: Settings, set: Set, address: VirtAddr, way: Way, found: Ma
 }
 
 impl Machine {
-    // A translation on the machine: a hit stores nothing, a walk that finds the page its own set, and a refused one drops the page.
+    // A translation on the machine: a hit stores nothing, a walk that finds the page its own set, and a refused one drops the page from every set.
     pub fn translate(self, address: VirtAddr, access: u64, mode: u64, memory: &mut [u8]) -> Stepped
         ensures { λ r. ⌜ spec.Gives (spec.translated self (now (memory .entry)) address access mode) r (now (memory .exit)) ⌝ }
     {
@@ -78,10 +79,10 @@ impl Machine {
                         cache.sets[index] = filled;
                     }
                     Walked::Refused(_, _) => {
-                        cache = cache.drop_page(address.tag());
+                        cache = cache.drop(Drop::Page(address.tag()));
                     }
                     Walked::Outside(_, _, _) => {
-                        cache = cache.drop_page(address.tag());
+                        cache = cache.drop(Drop::Page(address.tag()));
                     }
                 }
                 Stepped {

@@ -1,6 +1,7 @@
 // A loop of remembered translations that keeps the machine in a local, for the speed command alone.
 use address::VirtAddr;
 use cache::Cache;
+use cache::Drop;
 use machine::Probed;
 use machine::translate::fill;
 use machine::translate::probe;
@@ -67,10 +68,10 @@ pub extern "C" fn timing_translations(
                         cache.sets[index] = filled;
                     }
                     Walked::Refused(_, _) => {
-                        cache = cache.drop_page(address.tag());
+                        cache = cache.drop(Drop::Page(address.tag()));
                     }
                     Walked::Outside(_, _, _) => {
-                        cache = cache.drop_page(address.tag());
+                        cache = cache.drop(Drop::Page(address.tag()));
                     }
                 }
             }

@@ -1,10 +1,10 @@
 //! The first exercise on a machine that remembers: press, and the driver counts in its page; move the
 //! page, press again, and the old page still counts; drop the page, press again, and the new one does.
-//! Prints each step and checks it. Exits with 1 where anything differs.
+//! Then one drop of a large page. Prints each step and checks it. Exits with 1 where anything differs.
 
 use std::process::ExitCode;
 
-use aalbrett::{byte, Answer, Card, Machine, Place, Question, Settings, USER, WRITE};
+use aalbrett::{byte, Answer, Card, Machine, Place, Question, Settings, READ, USER, WRITE};
 
 /// The driver's counter, its page's last table entry, and where the page lies before and after.
 const COUNTER: u64 = 0x40_3ABC;
@@ -79,6 +79,34 @@ impl Emulator {
         }
         right(held == frame)
     }
+
+    /// Whether the piece of an address is remembered.
+    fn holds(&self, address: u64) -> bool {
+        let tag = address / PAGE as u64;
+        let places = self.machine.record.sets[tag as usize % 16];
+        places
+            .iter()
+            .any(|place| place.flags & Place::MARKED != 0 && place.tag == tag)
+    }
+
+    /// Gives whether one drop takes all pieces of a 2 MiB page and leaves the next page.
+    fn large_page(&mut self) -> bool {
+        self.step(Card::store(0x3018, 0x80_0087));
+        self.step(Card::store(0x3020, 0xa0_0087));
+        let asked = [0x60_0000, 0x7f_f000, 0x80_0000];
+        for address in asked {
+            self.step(Card::translate(Question {
+                address,
+                access: READ,
+                mode: USER,
+            }));
+        }
+        let before = asked.map(|address| self.holds(address));
+        self.step(Card::drop_page(0x65_1234));
+        let after = asked.map(|address| self.holds(address));
+        println!("one drop of a 2 MiB page: of two pieces and the next page {after:?} are held");
+        right((before, after) == ([true; 3], [false, false, true]))
+    }
 }
 
 /// Prints where something is wrong.
@@ -118,6 +146,7 @@ fn main() -> ExitCode {
     all &= emulator.remembered(None);
     all &= emulator.pressed(NEW_PAGE, 4, (2, 2));
     all &= emulator.remembered(Some(6));
+    all &= emulator.large_page();
     if all {
         ExitCode::SUCCESS
     } else {

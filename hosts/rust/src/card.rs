@@ -34,7 +34,7 @@ impl Card {
         Card::new(2, 0, cr3)
     }
 
-    /// Drops the page of an address.
+    /// Drops each place whose page, at the place's own size, contains the address.
     pub fn drop_page(address: u64) -> Card {
         Card::new(3, address, 0)
     }

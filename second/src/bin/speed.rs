@@ -151,6 +151,14 @@ fn lost_pages() -> Vec<u8> {
         .collect()
 }
 
+/// 64 pages that the last table lacks, so that each walk is refused and drops.
+fn missing_pages() -> Vec<u8> {
+    let address = |page: u64| ((page + 64) << 12) | (page * 61 % 4096);
+    (0..64)
+        .flat_map(|page| address(page).to_le_bytes())
+        .collect()
+}
+
 /// Prints a line: the name, both best times and their ratio.
 fn print(name: &str, [first, second]: [f64; 2]) {
     let ratio = first / second;
@@ -261,7 +269,9 @@ fn main() {
     translations("hit, write", (WRITE, USER), &held_pages());
     translations("fill, read", (READ, USER), &lost_pages());
     translations("fill, write", (WRITE, USER), &lost_pages());
+    translations("fault, read", (READ, USER), &missing_pages());
     steps("hit in place, read", (READ, USER), &held_pages());
     steps("hit in place, write", (WRITE, USER), &held_pages());
     steps("fill in place, read", (READ, USER), &lost_pages());
+    steps("fault in place, read", (READ, USER), &missing_pages());
 }

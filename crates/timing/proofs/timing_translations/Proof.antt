@@ -4,6 +4,7 @@ use native.Mathlib.Omega.{arith}
 use mathlib.Core.Path.{_≡_, ap, _∙_}
 use mathlib.Core.Logic.{⊎-elim}
 use Rattle.cache.specs.declared.Cache.{Cache}
+use Rattle.cache.specs.declared.Drop.the-variants.{Page}
 use Rattle.cache.proofs.Laws.{drop-sixteen}
 use borrow.Author.Needs.{needs}
 use lib.ListN.{length, length-set}
@@ -85,8 +86,8 @@ enum-told c = search needs
 tag-requires-2 : tie.Need-tag-requires-2 Inv-loop μ-loop
 tag-requires-2 c κs = search needs
 
-drop-page-requires : tie.Need-drop-page-requires Inv-loop μ-loop
-drop-page-requires c κs = search needs
+drop-requires : tie.Need-drop-requires Inv-loop μ-loop
+drop-requires c κs = search needs
 
 enum-told-2 : tie.Need-enum-told-2 Inv-loop μ-loop
 enum-told-2 c = search needs
@@ -94,8 +95,8 @@ enum-told-2 c = search needs
 tag-requires-3 : tie.Need-tag-requires-3 Inv-loop μ-loop
 tag-requires-3 c κs = search needs
 
-drop-page-requires-2 : tie.Need-drop-page-requires-2 Inv-loop μ-loop
-drop-page-requires-2 c κs = search needs
+drop-requires-2 : tie.Need-drop-requires-2 Inv-loop μ-loop
+drop-requires-2 c κs = search needs
 
 add-n : tie.Need-add-n Inv-loop μ-loop
 add-n c = search needs
@@ -120,12 +121,12 @@ loop-again c =
     (⊎-elim
     (λ w. (
       ap length (w .13) ∙ (w .5 .given ∙ i .0),
-      ap (λ (x : Cache). length (x .sets)) (w .14 ∙ w .12 .ensures) ∙ drop-sixteen (w .11 .result) (record { sets = sets }) (i .1),
+      ap (λ (x : Cache). length (x .sets)) (w .14 ∙ w .12 .ensures) ∙ drop-sixteen (Page (w .11 .result)) (record { sets = sets }),
       next,
     ))
     (λ w. (
       ap length (w .13) ∙ (w .5 .given ∙ i .0),
-      ap (λ (x : Cache). length (x .sets)) (w .14 ∙ w .12 .ensures) ∙ drop-sixteen (w .11 .result) (record { sets = sets }) (i .1),
+      ap (λ (x : Cache). length (x .sets)) (w .14 ∙ w .12 .ensures) ∙ drop-sixteen (Page (w .11 .result)) (record { sets = sets }),
       next,
     ))))
     (c .match .came)
@@ -165,10 +166,10 @@ timing-translations-spec =
     element-set-from-filled
     enum-told
     tag-requires-2
-    drop-page-requires
+    drop-requires
     enum-told-2
     tag-requires-3
-    drop-page-requires-2
+    drop-requires-2
     add-n
     loop-less
     loop-again

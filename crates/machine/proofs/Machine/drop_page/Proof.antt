@@ -19,8 +19,8 @@ returns c = rw (c .done .ensures, sym (c .before .before .canonical .ensures) �
 tag-requires : tie.Need-tag-requires
 tag-requires c κs = search needs
 
-drop-page-requires : tie.Need-drop-page-requires
-drop-page-requires c κs = search needs
+drop-requires : tie.Need-drop-requires
+drop-requires c κs = search needs
 
 done-requires-2 : tie.Need-done-requires-2
 done-requires-2 c κs = search needs
@@ -28,7 +28,7 @@ done-requires-2 c κs = search needs
 returns-2 : tie.Need-returns-2
 unfolding pageDropped
 returns-2 c =
-    rw (c .done2 .ensures, c .before .drop-page .ensures, c .before .before .tag .ensures, sym (c .before .before .before .before .before .before .canonical .ensures) ∙ not-false _ (c .before .before .before .before .before .if1 .left))
+    rw (c .done2 .ensures, c .before .drop .ensures, c .before .before .tag .ensures, sym (c .before .before .before .before .before .before .canonical .ensures) ∙ not-false _ (c .before .before .before .before .before .if1 .left))
 
 pub drop-page-spec : {M : Type 1} → statement M
 drop-page-spec =
@@ -38,6 +38,6 @@ drop-page-spec =
     done-requires
     returns
     tag-requires
-    drop-page-requires
+    drop-requires
     done-requires-2
     returns-2)

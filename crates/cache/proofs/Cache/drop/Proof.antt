@@ -1,20 +1,20 @@
--- `Cache::load_root` meets its contract.
-use Rattle.cache.specs.Whole.{loadRoot}
+-- `Cache::drop` meets its contract.
+use Rattle.cache.specs.Whole.{dropCache}
 use lib.ListN.{length, length-map}
 use Rattle.cache.proofs.Steps.{rewritten, rewritten-more, rewritten-all}
-use Rattle.cache.specs.Sets.{rootSet}
+use Rattle.cache.specs.Sets.{dropSet}
 use mathlib.Core.Path.{_≡_, refl, sym, _∙_}
 use borrow.Author.Needs.{needs}
 use native.Mathlib.Omega.{arith}
 use Prim.Native.Nat.{_≤_, _-_}
-use Rattle.cache.proofs.Cache.load_root.Statement.{statement}
-use Rattle.cache.proofs.Cache.load_root.Tie as tie
+use Rattle.cache.proofs.Cache.drop.Statement.{statement}
+use Rattle.cache.proofs.Cache.drop.Tie as tie
 
 abbrev Inv-loop : tie.InvT-loop
-Inv-loop cache₀ i₀ cache i = (i ≤ 16) × (cache .sets ≡ rewritten rootSet cache₀ i)
+Inv-loop drop cache₀ i₀ cache i = (i ≤ 16) × (cache .sets ≡ rewritten (λ i. dropSet i drop) cache₀ i)
 
 abbrev μ-loop : tie.MeasureT-loop
-μ-loop cache₀ i₀ cache i = 16 - i
+μ-loop drop cache₀ i₀ cache i = 16 - i
 
 sixteen : (c : tie.Start Inv-loop μ-loop) → length (c .args .self .sets) ≡ 16
 sixteen c = sym (length-map (c .args .self .sets) _) ∙ c .good .0 .1 .1 .0 .1 .0 .1
@@ -28,8 +28,8 @@ mul-own c = search needs
 element-copy-out-own : tie.Need-element-copy-out-own Inv-loop μ-loop
 element-copy-out-own c = search needs
 
-load-root-requires : tie.Need-load-root-requires Inv-loop μ-loop
-load-root-requires c κs = search needs
+drop-requires : tie.Need-drop-requires Inv-loop μ-loop
+drop-requires c κs = search needs
 
 mul-left : tie.Need-mul-left Inv-loop μ-loop
 mul-left c = search needs
@@ -47,17 +47,17 @@ loop-again : tie.Need-loop-again Inv-loop μ-loop
 loop-again c =
     let d = c .before .before .before in (
       omega arith,
-      rewritten-more rootSet (d .before .args .self) (d .loop .cache) (d .loop .i) (c .load-root .result) (sixteen (d .before)) (omega arith) (d .loop .inv .1) (c .load-root .ensures),
+      rewritten-more (λ i. dropSet i (d .before .args .drop)) (d .before .args .self) (d .loop .cache) (d .loop .i) (c .drop .result) (sixteen (d .before)) (omega arith) (d .loop .inv .1) (c .drop .ensures),
     )
 
 returns : tie.Need-returns Inv-loop μ-loop
-unfolding loadRoot
+unfolding dropCache
 returns c =
     let d = c .before in
-    rewritten-all rootSet (d .before .args .self) (d .loop .cache) (d .loop .i) (sixteen (d .before)) (omega arith) (d .loop .inv .1)
+    rewritten-all (λ i. dropSet i (d .before .args .drop)) (d .before .args .self) (d .loop .cache) (d .loop .i) (sixteen (d .before)) (omega arith) (d .loop .inv .1)
 
-pub load-root-spec : {M : Type 1} → statement M
-load-root-spec =
+pub drop-spec : {M : Type 1} → statement M
+drop-spec =
     tie.close
     (tie.spec
     Inv-loop
@@ -65,7 +65,7 @@ load-root-spec =
     loop-holds
     mul-own
     element-copy-out-own
-    load-root-requires
+    drop-requires
     mul-left
     element-set-from-left
     add-i
