@@ -13,6 +13,24 @@ pub struct PhysAddr(pub u64);
 #[repr(C)]
 pub struct Frame(pub u64);
 
+// The entries in a table, and so the pages of a level in one of the next.
+const ENTRIES_IN_A_TABLE: u64 = 512;
+
+// The bytes of a page of each level: 4 KiB at level 1, 2 MiB at 2, 1 GiB at 3, and so on.
+const PAGE_OF_LEVEL_0: u64 = 8;
+
+const PAGE_OF_LEVEL_1: u64 = 4096;
+
+const PAGE_OF_LEVEL_2: u64 = PAGE_OF_LEVEL_1 * ENTRIES_IN_A_TABLE;
+
+const PAGE_OF_LEVEL_3: u64 = PAGE_OF_LEVEL_2 * ENTRIES_IN_A_TABLE;
+
+const PAGE_OF_LEVEL_4: u64 = PAGE_OF_LEVEL_3 * ENTRIES_IN_A_TABLE;
+
+const PAGE_OF_LEVEL_5: u64 = PAGE_OF_LEVEL_4 * ENTRIES_IN_A_TABLE;
+
+const PAGE_OF_LEVEL_6: u64 = PAGE_OF_LEVEL_5 * ENTRIES_IN_A_TABLE;
+
 impl VirtAddr {
     // Whether bits 63 to 47 are equal.
     pub fn canonical(self) -> bool
@@ -22,31 +40,67 @@ impl VirtAddr {
         (top == 0) | (top == 0x1ffff)
     }
 
-    // The index into the table of a level.
+    // The index into the table of a level: the pages of that level before this address, counted within one table.
     pub fn index(self, level: u64) -> u64
         ensures { λ r. ⌜ r ≡ spec.index self level ⌝ }
     {
-        if 6 < level {
-            return 0;
+        if level == 1 {
+            return self.0 / PAGE_OF_LEVEL_1 % ENTRIES_IN_A_TABLE;
         }
-        (self.0 >> (3 + 9 * level)) & 511
+        if level == 2 {
+            return self.0 / PAGE_OF_LEVEL_2 % ENTRIES_IN_A_TABLE;
+        }
+        if level == 3 {
+            return self.0 / PAGE_OF_LEVEL_3 % ENTRIES_IN_A_TABLE;
+        }
+        if level == 4 {
+            return self.0 / PAGE_OF_LEVEL_4 % ENTRIES_IN_A_TABLE;
+        }
+        if level == 5 {
+            return self.0 / PAGE_OF_LEVEL_5 % ENTRIES_IN_A_TABLE;
+        }
+        if level == 6 {
+            return self.0 / PAGE_OF_LEVEL_6 % ENTRIES_IN_A_TABLE;
+        }
+        if level == 0 {
+            return self.0 / PAGE_OF_LEVEL_0 % ENTRIES_IN_A_TABLE;
+        }
+        0
     }
 
-    // The offset in a page of a size.
+    // The offset in a page of a size: what is left of this address after whole pages.
     pub fn offset(self, size: u64) -> u64
         ensures { λ r. ⌜ r ≡ spec.offset self size ⌝ }
     {
-        if 6 < size {
-            return self.0;
+        if size == 1 {
+            return self.0 % PAGE_OF_LEVEL_1;
         }
-        self.0 & ((1 << (3 + 9 * size)) - 1)
+        if size == 2 {
+            return self.0 % PAGE_OF_LEVEL_2;
+        }
+        if size == 3 {
+            return self.0 % PAGE_OF_LEVEL_3;
+        }
+        if size == 4 {
+            return self.0 % PAGE_OF_LEVEL_4;
+        }
+        if size == 5 {
+            return self.0 % PAGE_OF_LEVEL_5;
+        }
+        if size == 6 {
+            return self.0 % PAGE_OF_LEVEL_6;
+        }
+        if size == 0 {
+            return self.0 % PAGE_OF_LEVEL_0;
+        }
+        self.0
     }
 
-    // The tag of the page.
+    // The tag of the page: the 4 KiB pages before this address.
     pub fn tag(self) -> u64
         ensures { λ r. ⌜ r ≡ spec.tag self ⌝ }
     {
-        self.0 >> 12
+        self.0 / PAGE_OF_LEVEL_1
     }
 }
 

@@ -1,30 +1,41 @@
 -- `VirtAddr::index` meets its contract.
-use Prim.Native.Nat.{_/_, _^_, _<_}
+use Prim.Native.Nat.{_^_, _<_, _≤_}
 use native.Mathlib.Omega.{arith}
-use lib.Bits.{and-mask}
 use Rattle.word.proofs.Laws.{nothing-above}
 use Rattle.address.specs.Address.{pageBits}
-use borrow.Author.Needs.{needs}
+use Rattle.address.proofs.Laws.{past-six}
 use Rattle.address.proofs.VirtAddr.index.Statement.{statement}
 use Rattle.address.proofs.VirtAddr.index.Tie as tie
 
 returns : tie.Need-returns
-returns c =
-    let a = c .before .args in
-    let small : a .self .0 < 2 ^ 64 = omega arith in
-    rw (nothing-above (a .self .0) (pageBits (a .level)) small (omega arith))
-
-mul-result : tie.Need-mul-result
-mul-result c = search needs
-
-add-result : tie.Need-add-result
-add-result c = search needs
-
-shr-result : tie.Need-shr-result
-shr-result c = search needs
+returns c = rw (c .before .if1 .taken)
 
 returns-2 : tie.Need-returns-2
-returns-2 c = let a = c .before .before .args in and-mask (a .self .0 / 2 ^ pageBits (a .level)) 9
+returns-2 c = rw (c .before .if2 .taken)
+
+returns-3 : tie.Need-returns-3
+returns-3 c = rw (c .before .if3 .taken)
+
+returns-4 : tie.Need-returns-4
+returns-4 c = rw (c .before .if4 .taken)
+
+returns-5 : tie.Need-returns-5
+returns-5 c = rw (c .before .if5 .taken)
+
+returns-6 : tie.Need-returns-6
+returns-6 c = rw (c .before .if6 .taken)
+
+returns-7 : tie.Need-returns-7
+returns-7 c = rw (c .before .if7 .taken)
+
+returns-8 : tie.Need-returns-8
+returns-8 c =
+    let a = c .before .before .before .before .before .before .before .args in
+    let small : a .self .0 < 2 ^ 64 = omega arith in
+    let high : 7 ≤ a .level = past-six (a .level) (c .if7 .left) (c .before .before .before .before .before .before .if1 .left) (c .before .before .before .before .before .if2 .left) (c .before .before .before .before .if3 .left) (c .before .before .before .if4 .left) (c .before .before .if5 .left) (c .before .if6 .left) in
+    rw (nothing-above (a .self .0) (pageBits (a .level)) small (omega arith))
 
 pub index-spec : {M : Type 1} → statement M
-index-spec = tie.close (tie.spec returns mul-result add-result shr-result returns-2)
+index-spec =
+    tie.close
+    (tie.spec returns returns-2 returns-3 returns-4 returns-5 returns-6 returns-7 returns-8)
