@@ -48,7 +48,7 @@ extern "C" {
  *               memory lent
  *   FAULT       page fault                     the error code                 level of the entry at fault, 4 to 1
  *   CARD_SHORT  a card of other than 32 bytes  0                              0
- *   SHORT       answer buffer below 32 bytes   nothing is written
+ *   SHORT       answer buffer below 40 bytes   nothing is written
  *   ROOT        CR3 not below 2^M              0                              0
  *   PAGING      CR0.PG = 1 without CR0.PE,     0                              0
  *               CR4.PAE or EFER.LME
@@ -79,7 +79,7 @@ extern "C" {
 #define AALBRETT_EXTENSION 10
 
 /*
- * The first 32 bytes of an answer buffer: four little-endian 64-bit numbers. On x86-64 they can be
+ * The first 40 bytes of an answer buffer: five little-endian 64-bit numbers. On x86-64 they can be
  * read in place, so that a host may lend a struct aalbrett_answer as its buffer.
  *
  *   bytes   0 to  7   answer: a number of the table above, the one that the call returns
@@ -87,12 +87,17 @@ extern "C" {
  *   bytes  16 to 23   detail
  *   bytes  24 to 31   reads: the entries read; 0 where no walk was made, 1 to 4 on a walk, the entry
  *                     at fault included. An entry outside memory is not read: OUTSIDE tells 0 to 3.
+ *   bytes  32 to 39   memory_type: the memory type index, 0 to 7: 4 times PAT plus 2 times PCD plus PWT
+ *                     of the last entry, where PAT is bit 7 of an entry of level 1 and bit 12 of a large
+ *                     page, PCD bit 4 and PWT bit 3. 0 with paging off, on a refusal, and where no
+ *                     translation was asked.
  */
 struct aalbrett_answer {
     uint64_t answer;
     uint64_t value;
     uint64_t detail;
     uint64_t reads;
+    uint64_t memory_type;
 };
 
 /*
@@ -109,7 +114,7 @@ struct aalbrett_answer {
  *   access, mode          AALBRETT_READ, WRITE or FETCH; AALBRETT_SUPERVISOR or USER.
  *   memory                guest memory: memory_length bytes that the call may read and write. Physical
  *                         address 0 is the first of them. Any length will do, 0 too.
- *   answer                the answer buffer: answer_length bytes. The first 32 are written, on every
+ *   answer                the answer buffer: answer_length bytes. The first 40 are written, on every
  *                         answer but SHORT; later ones stay as they are.
  *
  * Returns the answer's number, whatever the numbers and the bytes are.
@@ -148,9 +153,9 @@ struct aalbrett_settings {
  * place's own size: a drop of an address takes every place whose page contains it, so that one drop takes
  * all pieces of a large page, and no other place.
  *
- * It counts only if marked, its tag is below 2^52 and belongs to its set, its frame is below 2^40 and
- * its size is 1 to 3; every other place reads as empty. Its flags are the bits named below; the other
- * two count for nothing.
+ * It counts only if marked, its tag is below 2^52 and belongs to its set, its frame is below 2^40, its
+ * size is 1 to 3 and its memory type index below 8; every other place reads as empty. Its flags are the
+ * bits named below; the other two count for nothing.
  */
 #define AALBRETT_PLACE_WRITE 1u  /* the rights that all entries of its walk gave */
 #define AALBRETT_PLACE_USER 2u
@@ -164,6 +169,7 @@ struct aalbrett_place {
     uint64_t frame; /* the physical address divided by 4,096 */
     uint8_t size;   /* 1, 2, 3: of a page of 4 KiB, 2 MiB, 1 GiB */
     uint8_t flags;
+    uint8_t memory_type; /* the memory type index of the walk's last entry */
 };
 
 /*
@@ -224,10 +230,10 @@ struct aalbrett_card {
  *
  * Returns the answer's number, whatever the four hold.
  *
- * A translation is served from what the machine remembers, and reports 0 entries read, where the page
- * is remembered with the rights needed, and for a write with Dirty set. Otherwise it walks memory as
- * aalbrett_walk does; a success is remembered, and OUTSIDE or FAULT drops the address as
- * AALBRETT_CARD_PAGE does.
+ * A translation is served from what the machine remembers, its memory type index too, and reports 0
+ * entries read, where the page is remembered with the rights needed, and for a write with Dirty set.
+ * Otherwise it walks memory as aalbrett_walk does; a success is remembered, and OUTSIDE or FAULT drops
+ * the address as AALBRETT_CARD_PAGE does.
  *
  * memory is changed by a translation that walks and is answered DONE, as in aalbrett_walk, and by a
  * store that is answered DONE. SHORT, CARD_SHORT, UNKNOWN, WIDTH, ROOT, PAGING, EXTENSION and FORM

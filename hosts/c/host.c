@@ -65,33 +65,33 @@ static const struct entry tables[] = {
 };
 
 static const struct exercise exercises[] = {
-    {PAGING, {0x403abc, READ, USER}, {AALBRETT_DONE, 0x5abc, 1, 4}, {0x1000, 0x2000, 0x3010, 0x4018}},
-    {PAGING, {0x403abc, WRITE, USER}, {AALBRETT_DONE, 0x5abc, 1, 4}, {0x1000, 0x2000, 0x3010, 0x4018}},
-    {PAGING, {0x612345, READ, USER}, {AALBRETT_DONE, 0x812345, 2, 3}, {0x1000, 0x2000, 0x3018}},
-    {PAGING, {0x52345678, READ, USER}, {AALBRETT_DONE, 0x92345678, 3, 2}, {0x1000, 0x2008}},
-    {PAGING, {0x800000, READ, USER}, {AALBRETT_FAULT, 13, 2, 3}, {0}},
-    {PAGING, {0xa00010, READ, USER}, {AALBRETT_DONE, 0x800010, 2, 3}, {0x1000, 0x2000, 0x3028}},
-    {PAGING, {0x406000, WRITE, USER}, {AALBRETT_FAULT, 7, 1, 4}, {0}},
-    {PAGING, {0x406000, WRITE, SUPERVISOR}, {AALBRETT_FAULT, 3, 1, 4}, {0}},
-    {UNPROTECTED, {0x406000, WRITE, SUPERVISOR}, {AALBRETT_DONE, 0x6000, 1, 4}, {0x1000, 0x2000, 0x3010, 0x4030}},
-    {PAGING, {0x8080000000, WRITE, USER}, {AALBRETT_FAULT, 6, 3, 2}, {0}},
-    {PAGING, {0x407000, FETCH, USER}, {AALBRETT_FAULT, 21, 1, 4}, {0}},
-    {EXECUTABLE, {0x407000, READ, USER}, {AALBRETT_FAULT, 13, 1, 4}, {0}},
-    {PAGING, {0x408000, READ, SUPERVISOR}, {AALBRETT_FAULT, 9, 1, 4}, {0}},
-    {WIDER, {0x408000, READ, SUPERVISOR}, {AALBRETT_DONE, 0x10000008000, 1, 4}, {0x1000, 0x2000, 0x3010, 0x4040}},
-    {PAGING, {0xc0000000, READ, USER}, {AALBRETT_OUTSIDE, 0x9000, 2, 2}, {0}},
-    {PAGING, {0x0000800000000000, READ, USER}, {AALBRETT_FORM, 0, 0, 0}, {0}},
-    {PAGING, {0xffff800000000000, READ, SUPERVISOR}, {AALBRETT_FAULT, 0, 4, 1}, {0}},
-    {TOO_NARROW, {0x403abc, READ, USER}, {AALBRETT_WIDTH, 0, 0, 0}, {0}},
-    {NARROWEST, {0x403abc, READ, USER}, {AALBRETT_DONE, 0x5abc, 1, 4}, {0x1000, 0x2000, 0x3010, 0x4018}},
-    {WIDEST, {0x403abc, READ, USER}, {AALBRETT_DONE, 0x5abc, 1, 4}, {0x1000, 0x2000, 0x3010, 0x4018}},
-    {TOO_WIDE, {0x403abc, READ, USER}, {AALBRETT_WIDTH, 0, 0, 0}, {0}},
-    {LARGE_ROOT, {0x403abc, READ, USER}, {AALBRETT_ROOT, 0, 0, 0}, {0}},
-    {UNPREPARED, {0x403abc, READ, USER}, {AALBRETT_PAGING, 0, 0, 0}, {0}},
-    {EXTENDED, {0x403abc, READ, USER}, {AALBRETT_EXTENSION, 0, 0, 0}, {0}},
-    {PAGING, {0x403abc, 3, USER}, {AALBRETT_UNKNOWN, 0, 0, 0}, {0}},
-    {NO_PAGING, {0x403abc, READ, USER}, {AALBRETT_DONE, 0x403abc, 0, 0}, {0}},
-    {NO_PAGING, {0x100000000, READ, USER}, {AALBRETT_FORM, 0, 0, 0}, {0}},
+    {PAGING, {0x403abc, READ, USER}, {AALBRETT_DONE, 0x5abc, 1, 4, 0}, {0x1000, 0x2000, 0x3010, 0x4018}},
+    {PAGING, {0x403abc, WRITE, USER}, {AALBRETT_DONE, 0x5abc, 1, 4, 0}, {0x1000, 0x2000, 0x3010, 0x4018}},
+    {PAGING, {0x612345, READ, USER}, {AALBRETT_DONE, 0x812345, 2, 3, 0}, {0x1000, 0x2000, 0x3018}},
+    {PAGING, {0x52345678, READ, USER}, {AALBRETT_DONE, 0x92345678, 3, 2, 0}, {0x1000, 0x2008}},
+    {PAGING, {0x800000, READ, USER}, {AALBRETT_FAULT, 13, 2, 3, 0}, {0}},
+    {PAGING, {0xa00010, READ, USER}, {AALBRETT_DONE, 0x800010, 2, 3, 4}, {0x1000, 0x2000, 0x3028}},
+    {PAGING, {0x406000, WRITE, USER}, {AALBRETT_FAULT, 7, 1, 4, 0}, {0}},
+    {PAGING, {0x406000, WRITE, SUPERVISOR}, {AALBRETT_FAULT, 3, 1, 4, 0}, {0}},
+    {UNPROTECTED, {0x406000, WRITE, SUPERVISOR}, {AALBRETT_DONE, 0x6000, 1, 4, 0}, {0x1000, 0x2000, 0x3010, 0x4030}},
+    {PAGING, {0x8080000000, WRITE, USER}, {AALBRETT_FAULT, 6, 3, 2, 0}, {0}},
+    {PAGING, {0x407000, FETCH, USER}, {AALBRETT_FAULT, 21, 1, 4, 0}, {0}},
+    {EXECUTABLE, {0x407000, READ, USER}, {AALBRETT_FAULT, 13, 1, 4, 0}, {0}},
+    {PAGING, {0x408000, READ, SUPERVISOR}, {AALBRETT_FAULT, 9, 1, 4, 0}, {0}},
+    {WIDER, {0x408000, READ, SUPERVISOR}, {AALBRETT_DONE, 0x10000008000, 1, 4, 0}, {0x1000, 0x2000, 0x3010, 0x4040}},
+    {PAGING, {0xc0000000, READ, USER}, {AALBRETT_OUTSIDE, 0x9000, 2, 2, 0}, {0}},
+    {PAGING, {0x0000800000000000, READ, USER}, {AALBRETT_FORM, 0, 0, 0, 0}, {0}},
+    {PAGING, {0xffff800000000000, READ, SUPERVISOR}, {AALBRETT_FAULT, 0, 4, 1, 0}, {0}},
+    {TOO_NARROW, {0x403abc, READ, USER}, {AALBRETT_WIDTH, 0, 0, 0, 0}, {0}},
+    {NARROWEST, {0x403abc, READ, USER}, {AALBRETT_DONE, 0x5abc, 1, 4, 0}, {0x1000, 0x2000, 0x3010, 0x4018}},
+    {WIDEST, {0x403abc, READ, USER}, {AALBRETT_DONE, 0x5abc, 1, 4, 0}, {0x1000, 0x2000, 0x3010, 0x4018}},
+    {TOO_WIDE, {0x403abc, READ, USER}, {AALBRETT_WIDTH, 0, 0, 0, 0}, {0}},
+    {LARGE_ROOT, {0x403abc, READ, USER}, {AALBRETT_ROOT, 0, 0, 0, 0}, {0}},
+    {UNPREPARED, {0x403abc, READ, USER}, {AALBRETT_PAGING, 0, 0, 0, 0}, {0}},
+    {EXTENDED, {0x403abc, READ, USER}, {AALBRETT_EXTENSION, 0, 0, 0, 0}, {0}},
+    {PAGING, {0x403abc, 3, USER}, {AALBRETT_UNKNOWN, 0, 0, 0, 0}, {0}},
+    {NO_PAGING, {0x403abc, READ, USER}, {AALBRETT_DONE, 0x403abc, 0, 0, 0}, {0}},
+    {NO_PAGING, {0x100000000, READ, USER}, {AALBRETT_FORM, 0, 0, 0, 0}, {0}},
 };
 
 /* Lays the tables out in memory that is otherwise 0. */
@@ -126,6 +126,7 @@ static void print_answer(struct aalbrett_answer a) {
     case AALBRETT_DONE:
         printf("physical 0x%" PRIx64 "%s, %s", a.value, inside(a.value) ? "" : " (not in memory)",
                a.detail < 4 ? pages[a.detail] : "?");
+        printf(", memory type index %" PRIu64, a.memory_type);
         break;
     case AALBRETT_OUTSIDE:
         printf("table entry 0x%" PRIx64 " outside memory, level %" PRIu64, a.value, a.detail);
@@ -195,21 +196,21 @@ static bool run(const struct exercise *e) {
     return right;
 }
 
-/* Gives whether a buffer of 31 bytes is refused with nothing written, and bytes past 32 stay. */
+/* Gives whether a buffer of 39 bytes is refused with nothing written, and bytes past 40 stay. */
 static bool run_buffers(void) {
     static uint8_t memory[MEMORY_LENGTH], known[MEMORY_LENGTH];
-    uint8_t buffer[40], same[40];
+    uint8_t buffer[48], same[48];
     const struct exercise *e = &exercises[0];
     lay_out(memory);
     lay_out(known);
     memset(buffer, 0xa5, sizeof buffer);
     memset(same, 0xa5, sizeof same);
-    bool refused = walk(e->settings, e->question, memory, buffer, 31) == AALBRETT_SHORT;
+    bool refused = walk(e->settings, e->question, memory, buffer, 39) == AALBRETT_SHORT;
     bool untouched = memcmp(buffer, same, sizeof buffer) == 0 && memcmp(memory, known, MEMORY_LENGTH) == 0;
     bool served = walk(e->settings, e->question, memory, buffer, sizeof buffer) == AALBRETT_DONE;
-    bool kept = memcmp(buffer, &e->known, 32) == 0 && memcmp(buffer + 32, same + 32, 8) == 0;
+    bool kept = memcmp(buffer, &e->known, 40) == 0 && memcmp(buffer + 40, same + 40, 8) == 0;
     bool right = refused && untouched && served && kept;
-    printf("buffers of 31 and 40 bytes%s\n", right ? ": refused, and served" : " -- WRONG");
+    printf("buffers of 39 and 48 bytes%s\n", right ? ": refused, and served" : " -- WRONG");
     return right;
 }
 

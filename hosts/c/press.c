@@ -1,7 +1,7 @@
 /*
  * The first exercise on a machine that remembers: press, and the driver counts in its page; move the
  * page, press again, and the old page still counts; drop the page, press again, and the new one does.
- * Then one drop of a large page. Prints each step and checks it. Exits with 1 where anything differs.
+ * Then one drop of a large page, and a page that is uncached. Prints each step and checks it. Exits with 1 where anything differs.
  */
 #include <inttypes.h>
 #include <stdbool.h>
@@ -21,11 +21,13 @@ _Static_assert(sizeof(struct aalbrett_place) == 24, "the size of a place");
 _Static_assert(offsetof(struct aalbrett_place, frame) == 8, "a place's frame");
 _Static_assert(offsetof(struct aalbrett_place, size) == 16, "a place's size");
 _Static_assert(offsetof(struct aalbrett_place, flags) == 17, "a place's flags");
+_Static_assert(offsetof(struct aalbrett_place, memory_type) == 18, "a place's memory type index");
 _Static_assert(sizeof(struct aalbrett_card) == 32, "the size of a card");
 _Static_assert(offsetof(struct aalbrett_card, address) == 8, "a card's address");
 _Static_assert(offsetof(struct aalbrett_card, value) == 16, "a card's value");
 _Static_assert(offsetof(struct aalbrett_card, width) == 24, "a card's M");
-_Static_assert(sizeof(struct aalbrett_answer) == 32, "the size of an answer");
+_Static_assert(sizeof(struct aalbrett_answer) == 40, "the size of an answer");
+_Static_assert(offsetof(struct aalbrett_answer, memory_type) == 32, "an answer's memory type index");
 
 #define MEMORY_LENGTH 32768
 #define PAGE_LENGTH 4096
@@ -128,18 +130,29 @@ static bool large_page(void) {
     return right;
 }
 
+/* Gives whether the display's page is told as uncached, by the walk and from what is remembered. */
+static bool display(void) {
+    const struct aalbrett_card read = {
+        .kind = AALBRETT_CARD_TRANSLATE, .access = AALBRETT_READ, .mode = AALBRETT_USER, .address = 0x404000};
+    store(0x4020, 0x7017);
+    struct aalbrett_answer walked = step(read), held = step(read);
+    bool right = walked.memory_type == 2 && walked.reads == 4 && held.memory_type == 2 && held.reads == 0;
+    printf("the display's page has memory type index %" PRIu64 "%s\n", walked.memory_type, right ? ", PCD alone" : " -- WRONG");
+    return right;
+}
+
 /* Gives whether short buffers, short cards and unserved settings are refused as they are known to be. */
 static bool refusals(void) {
     struct aalbrett_machine other = {0};
-    struct aalbrett_answer answer = {9, 9, 9, 9};
+    struct aalbrett_answer answer = {9, 9, 9, 9, 9};
     uint8_t card[32] = {AALBRETT_CARD_ALL};
     bool right = aalbrett_start(&other, 0, 0x1000, 0, 0, 31) == AALBRETT_WIDTH && other.settings.cr3 == 0
         && other.settings.width == 40;
     right &= aalbrett_start(&other, 0, 0x10000000000, 0, 0, 40) == AALBRETT_ROOT;
     right &= aalbrett_start(&other, 0x80000001, 0x1000, 0x20, 0, 40) == AALBRETT_PAGING;
     right &= aalbrett_start(&other, 0x80000001, 0x1000, 0x1020, 0x100, 40) == AALBRETT_EXTENSION && other.settings.cr3 == 0;
-    right &= aalbrett_step(&other, memory, sizeof memory, card, 32, (uint8_t *)&answer, 31) == AALBRETT_SHORT && answer.answer == 9;
-    right &= aalbrett_step(&other, memory, sizeof memory, card, 31, (uint8_t *)&answer, 32) == AALBRETT_CARD_SHORT
+    right &= aalbrett_step(&other, memory, sizeof memory, card, 32, (uint8_t *)&answer, 39) == AALBRETT_SHORT && answer.answer == 9;
+    right &= aalbrett_step(&other, memory, sizeof memory, card, 31, (uint8_t *)&answer, sizeof answer) == AALBRETT_CARD_SHORT
         && answer.answer == AALBRETT_CARD_SHORT;
     printf("settings, a buffer and a card that are short%s\n", right ? ": refused" : " -- WRONG");
     return right;
@@ -165,5 +178,6 @@ int main(void) {
     right &= pressed(NEW_PAGE, 4, 2, 2);
     right &= remembered(NEW_PAGE / PAGE_LENGTH);
     right &= large_page();
+    right &= display();
     return right ? 0 : 1;
 }

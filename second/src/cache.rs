@@ -18,6 +18,7 @@ pub struct Place {
     pub dirty: u8,
     pub global: u8,
     pub spare: u8,
+    pub memory_type: u8,
 }
 
 impl Place {
@@ -28,6 +29,7 @@ impl Place {
             && self.tag % SETS == set
             && self.frame < 1 << 40
             && (1..=3).contains(&self.size)
+            && self.memory_type < 8
     }
 
     /// Whether the place's own page, at the place's own size, contains the address.
@@ -282,6 +284,10 @@ mod tests {
             Place { tag: 0x14, ..good },
             Place { size: 0, ..good },
             Place { size: 4, ..good },
+            Place {
+                memory_type: 8,
+                ..good
+            },
             Place {
                 frame: 1 << 40,
                 ..good

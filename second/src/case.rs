@@ -160,6 +160,6 @@ mod tests {
         assert_eq!(record[32], 40);
         assert_eq!(record[72..80], [8, 0, 0, 0, 0, 0, 0, 0]);
         assert_eq!(record[88..96], [255; 8]);
-        assert_eq!(case.line(3), "3 0 0000000000001234 0 0");
+        assert_eq!(case.line(3), "3 0 0000000000001234 0 0 0");
     }
 }

@@ -10,7 +10,7 @@ use crate::tally::{rows, Tally};
 /// So many bytes on both sides of a lent run must stay as they are.
 const GUARD: usize = 64;
 /// Lengths of the answer buffer: short, exact and long ones.
-const BUFFERS: [usize; 12] = [32, 32, 32, 32, 33, 40, 64, 96, 31, 24, 8, 0];
+const BUFFERS: [usize; 12] = [40, 40, 40, 40, 41, 48, 64, 96, 39, 32, 8, 0];
 
 /// A run of bytes with guards around it, at any alignment.
 #[derive(Clone, PartialEq)]
@@ -60,7 +60,7 @@ struct Outcome {
 pub fn walks(seed: u64, count: u64, host: HostWalk) -> Tally {
     let mut random = Random::new(seed);
     let mut tally = Tally::of_walks();
-    tally.expect([31, 32, 33].map(buffer_row));
+    tally.expect([39, 40, 41].map(buffer_row));
     let mut content = Vec::new();
     for number in 1..=count {
         let case = draw(&mut random, FRESH);
@@ -91,16 +91,16 @@ pub fn walks(seed: u64, count: u64, host: HostWalk) -> Tally {
 /// The row of an answer buffer's length.
 fn buffer_row(length: usize) -> String {
     match length {
-        0..=30 => "answer buffer below 31 bytes".into(),
-        31 | 32 => format!("answer buffer of {length} bytes"),
-        _ => "answer buffer above 32 bytes".into(),
+        0..=38 => "answer buffer below 39 bytes".into(),
+        39 | 40 => format!("answer buffer of {length} bytes"),
+        _ => "answer buffer above 40 bytes".into(),
     }
 }
 
 /// Makes the outcome into what the paper gives; the answer where the buffer is not short.
 fn expected(case: &Case, outcome: &mut Outcome) -> Option<Answer> {
     outcome.returned = Answer::SHORT_BUFFER;
-    let first = outcome.buffer.lent().get_mut(..32)?;
+    let first = outcome.buffer.lent().get_mut(..Answer::BYTES)?;
     let answer = case.translate(outcome.memory.lent());
     first.copy_from_slice(&answer.bytes());
     outcome.returned = answer.answer;
@@ -122,7 +122,7 @@ fn hosted(case: &Case, host: HostWalk, outcome: &mut Outcome) {
 fn difference(ours: &Outcome, theirs: &Outcome) -> String {
     let numbers = |outcome: &Outcome| {
         let lent = &outcome.buffer.bytes[outcome.buffer.start..];
-        let words = lent[..outcome.buffer.length].chunks_exact(8).take(4);
+        let words = lent[..outcome.buffer.length].chunks_exact(8).take(5);
         let number = |word: &[u8]| word.iter().rev().fold(0, |n, b| n << 8 | u64::from(*b));
         words.map(number).collect::<Vec<u64>>()
     };

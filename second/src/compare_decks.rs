@@ -15,7 +15,7 @@ const CARDS: usize = 80;
 /// Memory lengths of compared steps: the paper's in most decks.
 const MEMORIES: [usize; 6] = [MEMORY, MEMORY, MEMORY, 40000, 0x4220, 0x501B];
 /// Lengths of the answer buffer: exact, long and short ones.
-const BUFFERS: [usize; 10] = [32, 32, 32, 32, 32, 32, 40, 64, 31, 0];
+const BUFFERS: [usize; 10] = [40, 40, 40, 40, 40, 40, 48, 64, 39, 0];
 
 /// Compares the lines of so many decks and panics at the first difference; gives the events met.
 pub fn decks(seed: u64, count: u64, mut program: impl FnMut(&[u8]) -> String) -> Tally {
@@ -75,7 +75,7 @@ pub fn steps<M>(
 
 /// The number of one card's step into an answer buffer; a short one gives 7 and no step.
 pub fn buffered(machine: &mut Machine, memory: &mut [u8], card: &[u8], buffer: &mut [u8]) -> u64 {
-    let Some(first) = buffer.get_mut(..32) else {
+    let Some(first) = buffer.get_mut(..Answer::BYTES) else {
         return Answer::SHORT_BUFFER;
     };
     let answer = step(machine, memory, card);

@@ -14,7 +14,7 @@ use crate::tally::Tally;
 pub const CARDS: u64 = 8;
 /// Lengths of the answer buffer: exact, long and short ones.
 const BUFFERS: [usize; 16] = [
-    32, 32, 32, 32, 32, 32, 32, 32, 32, 32, 32, 33, 40, 64, 31, 0,
+    40, 40, 40, 40, 40, 40, 40, 40, 40, 40, 40, 41, 48, 64, 39, 0,
 ];
 
 /// What one side gives beside memory: the returned number, the record and the answer buffer.

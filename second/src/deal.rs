@@ -2,7 +2,7 @@
 
 use crate::card::{Card, CARD};
 use crate::draw_card::{drop_page, load_root, outside_store, paging_off, refused_settings};
-use crate::draw_card::{settings, table_store, translation};
+use crate::draw_card::{settings, table_store, translation, typed};
 use crate::draw_card::{ENTRIES, PAGES, PATH_ENTRIES, SET_PAGES};
 use crate::draw_pieces::large_page;
 use crate::random::Random;
@@ -14,6 +14,7 @@ pub fn deal(random: &mut Random, cards: usize) -> Vec<u8> {
     for (address, value) in ENTRIES {
         if random.chance(90) {
             let value = value | random.flag(1 << 8, if global { 60 } else { 10 });
+            let value = typed(random, address, value);
             put(random, &mut deck, Card::Store { address, value });
         }
     }
@@ -151,7 +152,7 @@ fn move_page(random: &mut Random, deck: &mut Vec<u8>) {
     let (page, address, usual) = random.pick(&PATH_ENTRIES);
     let mode = random.below(2) as u8;
     ask(random, deck, page, 0, mode);
-    let bit = random.pick(&[1, 2, 4, 0x1000, 0x3000, 0x20_0000]);
+    let bit = random.pick(&[1, 2, 4, 8, 0x10, 0x1000, 0x3000, 0x20_0000]);
     let outside = usual & 0xFFF | 0x9000;
     let value = random.pick(&[usual ^ bit, outside]);
     put(random, deck, Card::Store { address, value });

@@ -12,7 +12,7 @@ use crate::tally::Tally;
 use crate::translate::{canonical, translate, FETCH, WRITE};
 
 /// Rows that a good deal of decks brings up.
-const EVENTS: [&str; 40] = [
+const EVENTS: [&str; 41] = [
     "kind 0 answer 0",
     "kind 0 answer 1",
     "kind 0 answer 3",
@@ -37,6 +37,7 @@ const EVENTS: [&str; 40] = [
     "hit of a write",
     "hit of a fetch",
     "hit that a fresh walk differs from",
+    "hit of a memory type that a fresh walk differs from",
     "a fifth place fell out",
     "walk over a place of the page",
     "fault dropped a place",
@@ -57,7 +58,9 @@ const EVENTS: [&str; 40] = [
 
 /// A tally with every event at 0.
 pub fn tally() -> Tally {
-    Tally::of_rows(EVENTS.map(String::from).into())
+    let mut rows: Vec<String> = EVENTS.map(String::from).into();
+    rows.extend((0..8).map(|index| format!("memory type {index}")));
+    Tally::of_rows(rows)
 }
 
 /// Runs a deck and counts the events of its whole cards.
@@ -124,6 +127,9 @@ fn translation_rows(
     let held = before.cache.with_tag(tag).count() > 0;
     let done = answer.answer == Answer::DONE;
     add(done && answer.detail == 0, "paging off");
+    if done && answer.detail > 0 {
+        add(true, &format!("memory type {}", answer.memory_type));
+    }
     if !done {
         refused_rows(address, before, answer, rows);
     } else if answer.entries > 0 {
@@ -135,6 +141,8 @@ fn translation_rows(
         let walk = translate(&before.settings, address, access, mode, fresh);
         let stale = (walk.answer, walk.value) != (answer.answer, answer.value);
         add(stale, "hit that a fresh walk differs from");
+        let stale = walk.answer == Answer::DONE && walk.memory_type != answer.memory_type;
+        add(stale, "hit of a memory type that a fresh walk differs from");
         add(access == WRITE, "hit of a write");
         add(access == FETCH, "hit of a fetch");
         add(true, &format!("hit of size {}", answer.detail));

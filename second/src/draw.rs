@@ -6,6 +6,7 @@ use crate::random::Random;
 use crate::settings::Settings;
 use crate::translate::{Rights, FETCH};
 use crate::walk::{entry_address, is_page, shift, ACCESSED, DIRTY, EXECUTE_DISABLE};
+use crate::walk::{ATTRIBUTE, CACHE_DISABLE, LARGE_ATTRIBUTE, WRITE_THROUGH};
 use crate::walk::{FRAME, GLOBAL, LARGE, PRESENT, USER, WRITABLE};
 
 /// What a drawn case may have: its longest memory, and whether memory may hold rubbish.
@@ -154,9 +155,9 @@ fn sound_entry(random: &mut Random, case: &Case, level: u64, page: bool, base: u
     let near = table(random, case.length);
     let frame = random.pick(&[target, near]) & FRAME;
     if level == 1 {
-        return flags | frame | random.flag(LARGE, 40);
+        return flags | frame | random.flag(ATTRIBUTE, 40);
     }
-    let attribute = random.flag(1 << 12, 40);
+    let attribute = random.flag(LARGE_ATTRIBUTE, 40);
     flags | LARGE | attribute | (target & FRAME & !((1 << shift(level)) - 1))
 }
 
@@ -165,7 +166,8 @@ fn sound_flags(random: &mut Random, case: &Case) -> u64 {
     let settings = &case.settings;
     let needed = Rights::needed(settings, case.access, case.mode);
     let mut flags = PRESENT | random.flag(ACCESSED, 40) | random.flag(DIRTY, 40);
-    flags |= random.flag(GLOBAL, 30) | random.flag(0x18, 20) | random.flag(0xE00, 20);
+    flags |= random.flag(GLOBAL, 30) | random.flag(0xE00, 20);
+    flags |= random.flag(WRITE_THROUGH, 40) | random.flag(CACHE_DISABLE, 40);
     let ignored = random.word() & 0x7FF << 52;
     flags |= random.flag(ignored, 30);
     flags |= random.flag(WRITABLE, if needed.write { 100 } else { 60 });

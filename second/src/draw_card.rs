@@ -4,6 +4,7 @@ use crate::card::Card;
 use crate::draw_settings::unserved;
 use crate::random::Random;
 use crate::settings::Settings;
+use crate::walk::{ATTRIBUTE, CACHE_DISABLE, LARGE, LARGE_ATTRIBUTE, WRITE_THROUGH};
 
 /// The entries that a deck may store, with the values that suit its tables.
 ///
@@ -92,10 +93,12 @@ pub const LARGE_PAGES: [(u64, u64, u64, u64); 6] = [
 ];
 
 /// Bits of an entry that are worth turning over.
-const BITS: [u64; 10] = [
+const BITS: [u64; 12] = [
     1 << 0,
     1 << 1,
     1 << 2,
+    1 << 3,
+    1 << 4,
     1 << 6,
     1 << 7,
     1 << 8,
@@ -126,6 +129,17 @@ pub fn translation(random: &mut Random, pages: &[u64]) -> Card {
 pub fn table_store(random: &mut Random, address: u64, usual: u64) -> Card {
     let (address, value) = table_entry(random, address, usual);
     Card::Store { address, value }
+}
+
+/// The value of the entry at that address with any memory type, where it maps a page.
+pub fn typed(random: &mut Random, address: u64, value: u64) -> u64 {
+    let attribute = match (value & LARGE != 0, address >> 12) {
+        (true, _) => LARGE_ATTRIBUTE,
+        (false, 4 | 7) => ATTRIBUTE,
+        _ => 0,
+    };
+    let through = random.flag(WRITE_THROUGH, 30) | random.flag(CACHE_DISABLE, 30);
+    value | through | random.flag(attribute, 30)
 }
 
 /// An entry's address, now and then shifted, and its usual value, with another frame or with bits turned over.

@@ -6,7 +6,7 @@ use crate::case::{Background, Case};
 use crate::deck::MEMORY;
 use crate::draw::served;
 use crate::draw_card::{drop_page, load_root, outside_store, paging_off, refused_settings};
-use crate::draw_card::{settings, table_entry, table_store, translation, ENTRIES, PAGES};
+use crate::draw_card::{settings, table_entry, table_store, translation, typed, ENTRIES, PAGES};
 use crate::draw_place::set;
 use crate::draw_settings::unserved;
 use crate::machine::Machine;
@@ -98,6 +98,7 @@ fn any_settings(random: &mut Random) -> Settings {
 fn memory(random: &mut Random, settings: Settings) -> Vec<u8> {
     let stores = ENTRIES.map(|(address, usual)| {
         let value = usual | random.flag(1 << 8, 40) | random.flag(1 << 6, 30);
+        let value = typed(random, address, value);
         if random.chance(8) {
             table_entry(random, address, value)
         } else {

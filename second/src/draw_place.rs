@@ -39,6 +39,7 @@ fn good(random: &mut Random, number: u64, tags: &[u64]) -> Place {
         dirty: flag(random, 70),
         global: flag(random, 45),
         spare: random.below(4) as u8,
+        memory_type: random.below(8) as u8,
     }
 }
 
@@ -80,7 +81,7 @@ fn piece(random: &mut Random, number: u64, tag: u64) -> u64 {
 fn broken(random: &mut Random, number: u64, tags: &[u64]) -> Place {
     let mut place = good(random, number, tags);
     let word = random.word();
-    match random.below(5) {
+    match random.below(6) {
         0 => place.marked = 0,
         1 => {
             let page = place.tag | 1 << random.between(52, 63);
@@ -92,9 +93,13 @@ fn broken(random: &mut Random, number: u64, tags: &[u64]) -> Place {
             let over = place.frame | 1 << random.between(40, 63);
             place.frame = random.pick(&[1 << 40, (1 << 40) + 1, over, over, u64::MAX]);
         }
-        _ => {
+        4 => {
             let any = random.between(4, 255) as u8;
             place.size = random.pick(&[0, 0, 4, 4, 5, 0x81, 255, any]);
+        }
+        _ => {
+            let any = random.between(8, 255) as u8;
+            place.memory_type = random.pick(&[8, 8, 9, 16, 0x80, 255, any]);
         }
     }
     place
@@ -113,6 +118,7 @@ fn rubbish(random: &mut Random) -> Place {
         dirty: flag(random, 50),
         global: flag(random, 50),
         spare: random.below(4) as u8,
+        memory_type: random.word() as u8,
     }
 }
 

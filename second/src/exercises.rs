@@ -1,6 +1,5 @@
 //! Document 01's exercises with known results.
 
-use crate::answer::Answer;
 use crate::settings::Settings;
 use crate::translate::{translate, FETCH, READ, SUPERVISOR, USER, WRITE};
 
@@ -50,22 +49,27 @@ fn changes(memory: &[u8]) -> Vec<(usize, u64)> {
         .collect()
 }
 
-/// Asserts answer and changed entries of one question asked afresh.
+/// Asserts answer and changed entries of one question asked afresh, with memory type index 0.
 fn expect(
     settings: Settings,
-    (address, access, mode): (u64, u64, u64),
+    asked: (u64, u64, u64),
     (answer, value, detail, entries): (u64, u64, u64, u64),
+    changed: &[(usize, u64)],
+) {
+    let known = [answer, value, detail, entries, 0];
+    expect_numbers(settings, asked, known, changed);
+}
+
+/// Asserts the five numbers and the changed entries of one question asked afresh.
+fn expect_numbers(
+    settings: Settings,
+    (address, access, mode): (u64, u64, u64),
+    known: [u64; 5],
     changed: &[(usize, u64)],
 ) {
     let mut memory = memory();
     let given = translate(&settings, address, access, mode, &mut memory);
-    let expected = Answer {
-        answer,
-        value,
-        detail,
-        entries,
-    };
-    assert_eq!(given, expected, "address {address:#x}");
+    assert_eq!(given.numbers(), known, "address {address:#x}");
     assert_eq!(changes(&memory), changed, "address {address:#x}");
 }
 
@@ -88,14 +92,14 @@ fn reads_of_each_size() {
     expect(settings(), asked, (0, 0x9234_5678, 3, 2), &large);
 }
 
-/// Bit 13 of a large page is reserved, bit 12 is not part of the address.
+/// Bit 13 of a large page is reserved, bit 12 is PAT and not part of the address.
 #[test]
 fn low_bits_of_large_pages() {
     let asked = (0x80_0000, READ, USER);
     expect(settings(), asked, (5, 13, 2, 3), &[]);
     let changed = [(0x1000, 0x2027), (0x2000, 0x3027), (0x3028, 0x80_10A7)];
     let asked = (0xA0_0010, READ, USER);
-    expect(settings(), asked, (0, 0x80_0010, 2, 3), &changed);
+    expect_numbers(settings(), asked, [0, 0x80_0010, 2, 3, 4], &changed);
 }
 
 /// A write to a read-only page, by user, supervisor and without WP.
@@ -222,6 +226,53 @@ fn a_table_that_points_at_itself() {
     let mut memory = vec![0; 32768];
     memory[0x1000..0x1008].copy_from_slice(&0x1007u64.to_le_bytes());
     let given = translate(&settings(), 0xABC, WRITE, USER, &mut memory);
-    assert_eq!(given.line(1), "1 0 0000000000001abc 1 4");
+    assert_eq!(given.line(1), "1 0 0000000000001abc 1 4 0");
     assert_eq!(memory[0x1000..0x1003], [0x67, 0x10, 0]);
+}
+
+/// The tables with one entry changed, and the answer to a supervisor's read.
+fn with_entry(at: usize, entry: u64, address: u64) -> [u64; 5] {
+    let mut memory = memory();
+    memory[at..at + 8].copy_from_slice(&entry.to_le_bytes());
+    translate(&settings(), address, READ, SUPERVISOR, &mut memory).numbers()
+}
+
+/// All eight memory type indices at all three sizes, from the last entry alone.
+#[test]
+fn memory_types() {
+    let pages = [
+        (0x4018, 0x5007, 1 << 7, 0x40_3000, [0, 0x5000, 1, 4]),
+        (0x3018, 0x80_0087, 1 << 12, 0x60_0000, [0, 0x80_0000, 2, 3]),
+        (
+            0x2008,
+            0x8000_0087,
+            1 << 12,
+            0x4000_0000,
+            [0, 0x8000_0000, 3, 2],
+        ),
+    ];
+    for (at, entry, attribute, address, known) in pages {
+        for memory_type in 0..8 {
+            let bits = ((memory_type & 3) << 3) | ((memory_type >> 2) * attribute);
+            let given = with_entry(at, entry | bits, address);
+            assert_eq!(given[..4], known);
+            assert_eq!(given[4], memory_type);
+        }
+        let upper = with_entry(0x1000, 0x2007 | 0x18, address);
+        assert_eq!(upper[4], 0);
+    }
+}
+
+/// A refusal has memory type index 0, whatever its last entry holds, and so has paging off.
+#[test]
+fn no_memory_type() {
+    assert_eq!(with_entry(0x4018, 0x501E, 0x40_3000), [5, 0, 1, 4, 0]);
+    assert_eq!(with_entry(0x3018, 0x80_309F, 0x60_0000), [5, 9, 2, 3, 0]);
+    let mut memory = memory();
+    let off = Settings {
+        cr0: 0,
+        ..settings()
+    };
+    let given = translate(&off, 0x40_3000, READ, USER, &mut memory);
+    assert_eq!(given.numbers(), [0, 0x40_3000, 0, 0, 0]);
 }

@@ -28,7 +28,7 @@ pub unsafe extern "C" fn fast_walk(
     answer: *mut u8,
     answer_length: usize,
 ) -> u64 {
-    if answer_length < 32 {
+    if answer_length < Answer::BYTES {
         return Answer::SHORT_BUFFER;
     }
     // SAFETY: the host lends both runs for the call.
@@ -46,10 +46,7 @@ pub unsafe extern "C" fn fast_walk(
         width,
     };
     let given = translate(&settings, address, access, mode, memory);
-    let numbers = [given.answer, given.value, given.detail, given.entries];
-    for (part, number) in buffer[..32].chunks_exact_mut(8).zip(numbers) {
-        part.copy_from_slice(&number.to_le_bytes());
-    }
+    buffer[..Answer::BYTES].copy_from_slice(&given.bytes());
     given.answer
 }
 
@@ -167,7 +164,10 @@ impl Descent {
         mark(path, self.write, memory);
         let offset = (1 << walk::shift(level)) - 1;
         let value = entry & walk::FRAME & !offset | self.address & offset;
-        given(Answer::DONE, value, level, 5 - level)
+        Answer {
+            memory_type: walk::memory_type(entry, level),
+            ..given(Answer::DONE, value, level, 5 - level)
+        }
     }
 
     /// The answer of the walk, or the refusal that ends it early.
@@ -194,6 +194,7 @@ fn given(answer: u64, value: u64, detail: u64, entries: u64) -> Answer {
         value,
         detail,
         entries,
+        memory_type: 0,
     }
 }
 

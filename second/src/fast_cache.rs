@@ -137,6 +137,7 @@ impl FastCache {
                 value: place.frame << 12 | address & 0xFFF,
                 detail: place.size.into(),
                 entries: 0,
+                memory_type: place.memory_type.into(),
             };
         }
         let mut descent = Descent::new(settings, address, access, mode);
@@ -154,6 +155,7 @@ impl FastCache {
                 dirty: (access == WRITE || last & walk::DIRTY != 0).into(),
                 global: (settings.global_pages() && last & walk::GLOBAL != 0).into(),
                 spare: 0,
+                memory_type: answer.memory_type as u8,
             };
             fill(set, number, new);
         } else {
@@ -193,10 +195,10 @@ impl FastMachine {
         }
     }
 
-    /// The step of a card that translates: gives the answer's number, and writes its four to the buffer.
+    /// The step of a card that translates: gives the answer's number, and writes its five to the buffer.
     #[inline(never)]
     pub fn step(&mut self, memory: &mut [u8], card: &[u8], buffer: &mut [u8]) -> u64 {
-        if buffer.len() < 32 {
+        if buffer.len() < Answer::BYTES {
             return Answer::SHORT_BUFFER;
         }
         let Some(Card::Translate {
@@ -212,10 +214,7 @@ impl FastMachine {
         let given = self
             .cache
             .translate(settings, address, access, mode, memory);
-        let numbers = [given.answer, given.value, given.detail, given.entries];
-        for (part, number) in buffer[..32].chunks_exact_mut(8).zip(numbers) {
-            part.copy_from_slice(&number.to_le_bytes());
-        }
+        buffer[..Answer::BYTES].copy_from_slice(&given.bytes());
         given.answer
     }
 }

@@ -8,10 +8,11 @@ use crate::translate::{Rights, WRITE};
 use crate::walk::{walk, End};
 
 /// Rows of a look into a set.
-const LOOKUPS: [&str; 20] = [
+const LOOKUPS: [&str; 22] = [
     "passed over, not filled: mark",
     "passed over, not filled: frame",
     "passed over, not filled: size",
+    "passed over, not filled: memory type",
     "passed over for R/W",
     "passed over for U/S",
     "passed over for fetch at NXE = 0",
@@ -29,12 +30,14 @@ const LOOKUPS: [&str; 20] = [
     "hit of size 2",
     "hit of size 3",
     "hit of a page that the tables lack",
+    "hit of a memory type that the tables no longer have",
 ];
 
 /// Every row of a look into a set.
 pub fn expected() -> Vec<String> {
     let mut rows: Vec<String> = LOOKUPS.map(String::from).into();
     rows.push("hit with spare bits".into());
+    rows.extend((0..8).map(|index| format!("hit of memory type {index}")));
     rows
 }
 
@@ -85,14 +88,16 @@ pub fn lookup_rows(before: &Machine, asked: &Asked, memory: &[u8], rows: &mut Ve
     let first = !passed.iter().any(|place| place.filled(number));
     let differs = |other: &&&Place| (other.frame, other.size) != (place.frame, place.size);
     let second = later.iter().filter(differs).any(hits);
-    let end = walk(settings, asked.address, memory).end;
-    let lacks = !matches!(end, End::Page { .. });
+    let walk = walk(settings, asked.address, memory);
+    let mapped = matches!(walk.end, End::Page { .. });
+    let stale = mapped && walk.memory_type() != u64::from(place.memory_type);
     let mut add = |found: bool, row: &str| rows.extend(found.then(|| row.to_string()));
     add(first, "hit by the first place of the tag");
     add(!first, "hit by a later place of the tag");
     add(second, "hit by the first of two that serve");
     add(rubbish(set, number), "hit beside rubbish");
-    add(lacks, "hit of a page that the tables lack");
+    add(!mapped, "hit of a page that the tables lack");
+    add(stale, "hit of a memory type that the tables no longer have");
     hit_rows(asked, place, rows);
     true
 }
@@ -107,6 +112,7 @@ fn hit_rows(asked: &Asked, place: &Place, rows: &mut Vec<String>) {
     add(place.frame == (1 << 40) - 1, "hit at frame 2^40 - 1");
     add(place.spare != 0, "hit with spare bits");
     add(true, &format!("hit of size {}", place.size));
+    add(true, &format!("hit of memory type {}", place.memory_type));
 }
 
 /// Adds why a place with the tag was passed over, where it is for one reason alone.

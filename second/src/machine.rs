@@ -40,6 +40,7 @@ impl Machine {
                 value: place.frame << 12 | address & 0xFFF,
                 detail: place.size.into(),
                 entries: 0,
+                memory_type: place.memory_type.into(),
             };
         }
         let (answer, walk) = walked(&self.settings, address, access, mode, memory);
@@ -67,6 +68,7 @@ impl Machine {
             dirty: (write || last & DIRTY != 0).into(),
             global: (self.settings.global_pages() && last & GLOBAL != 0).into(),
             spare: 0,
+            memory_type: answer.memory_type as u8,
         }
     }
 
@@ -128,14 +130,14 @@ mod tests {
             ..Settings::initial()
         };
         let (answer, mut machine) = Machine::start(narrow);
-        assert_eq!(answer.line(1), "1 2 0000000000000000 0 0");
+        assert_eq!(answer.line(1), "1 2 0000000000000000 0 0 0");
         assert_eq!(machine.settings, Settings::initial());
         let before = machine.clone();
         assert_eq!(machine.load_root(1 << 40).answer, 8);
         assert_eq!(machine.load_settings(1 << 31, 0, 0, 40).answer, 9);
         assert_eq!(machine.load_settings(1 << 31, 0, 0, 31).answer, 2);
         let extended = machine.load_settings(0x8000_0001, 0x1020, 0x100, 40);
-        assert_eq!(extended.line(1), "1 10 0000000000000000 0 0");
+        assert_eq!(extended.line(1), "1 10 0000000000000000 0 0 0");
         assert_eq!(machine, before);
         assert_eq!(machine.load_root((1 << 40) - 1).answer, 0);
         assert_eq!(machine.load_settings(0, 0, 0, 39).answer, 8);

@@ -66,6 +66,7 @@ fn raw_place(place: Place) -> raw::Place {
             + place.global * raw::Place::GLOBAL
             + place.marked * raw::Place::MARKED
             + place.spare * SPARE,
+        memory_type: place.memory_type,
     }
 }
 
@@ -83,5 +84,6 @@ fn place(place: raw::Place) -> Place {
         dirty: flag(raw::Place::DIRTY),
         global: flag(raw::Place::GLOBAL),
         spare: place.flags / SPARE,
+        memory_type: place.memory_type,
     }
 }

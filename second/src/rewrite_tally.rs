@@ -3,7 +3,7 @@
 use crate::cache::{Place, Set};
 
 /// The rules of a filled place.
-const RULES: [&str; 5] = ["mark", "tag", "set", "frame", "size"];
+const RULES: [&str; 6] = ["mark", "tag", "set", "frame", "size", "memory type"];
 /// The calls that rewrite a set.
 const REWRITES: [&str; 5] = [
     "fill",
@@ -13,7 +13,7 @@ const REWRITES: [&str; 5] = [
     "root load",
 ];
 /// Places at the border of a rule.
-const BORDERS: [&str; 9] = [
+const BORDERS: [&str; 11] = [
     "frame 2^40 - 1 kept",
     "frame 2^40 zeroed",
     "last tag of its set kept",
@@ -23,6 +23,8 @@ const BORDERS: [&str; 9] = [
     "size 2 kept",
     "size 3 kept",
     "size 4 zeroed",
+    "memory type 7 kept",
+    "memory type 8 zeroed",
 ];
 
 /// Every row of a rewrite.
@@ -43,6 +45,7 @@ pub fn broken_rule(place: &Place, number: u64) -> Option<&'static str> {
         place.tag % 16 != number,
         place.frame >= 1 << 40,
         !matches!(place.size, 1..=3),
+        place.memory_type > 7,
     ];
     let mut rules = RULES.iter().zip(broken).filter(|(_, broken)| *broken);
     let (rule, _) = rules.next()?;
@@ -89,7 +92,9 @@ fn border_rows(place: &Place, number: u64, rows: &mut Vec<String>) {
             add(place.size == 0, "size 0 zeroed");
             add(place.size == 4, "size 4 zeroed");
         }
+        Some("memory type") => add(place.memory_type == 8, "memory type 8 zeroed"),
         None if place.filled(number) => {
+            add(place.memory_type == 7, "memory type 7 kept");
             add(place.frame == (1 << 40) - 1, "frame 2^40 - 1 kept");
             add(place.tag >> 4 == (1 << 48) - 1, "last tag of its set kept");
             add(true, &format!("size {} kept", place.size));

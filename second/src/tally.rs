@@ -77,6 +77,7 @@ fn expected() -> Vec<String> {
         .into();
     for size in 1..=3 {
         rows.extend((0..3).map(|access| format!("success size {size} access {access}")));
+        rows.extend((0..8).map(|index| format!("success size {size} memory type {index}")));
     }
     for level in 1..=4 {
         rows.push(format!("missing level {level}"));
@@ -94,6 +95,11 @@ fn expected() -> Vec<String> {
         "success size 0",
         "success with one entry at two levels",
         "success of a supervisor write without R/W",
+        "success of a 4 KiB frame with bit 12 and PAT clear",
+        "success of another memory type than the first entry's",
+        "missing entry with a memory type",
+        "reserved entry with a memory type",
+        "rights lacking with a memory type",
         "form with paging on",
         "form with paging off",
         "unknown access",
@@ -141,17 +147,36 @@ fn walk_rows(case: &Case, memory: &[u8], walk: &Walk, answer: &Answer, rows: &mu
     match walk.end {
         End::Page { size } if answer.answer == Answer::DONE => {
             rows.push(format!("success size {size} access {}", case.access));
+            rows.push(format!(
+                "success size {size} memory type {}",
+                answer.memory_type
+            ));
             success_rows(case, walk, rows);
         }
-        End::Page { .. } => rows.push(format!("rights level {}", answer.detail)),
-        End::Missing { level } => rows.push(format!("missing level {level}")),
+        End::Page { .. } => {
+            rows.push(format!("rights level {}", answer.detail));
+            type_row("rights lacking", walk, rows);
+        }
+        End::Missing { level } => {
+            rows.push(format!("missing level {level}"));
+            type_row("missing entry", walk, rows);
+        }
         End::Outside { address, level } => {
             rows.push(format!("outside level {level}"));
             let astride = address < memory.len() as u64;
             rows.extend(astride.then(|| "outside astride the end".into()));
         }
-        End::Reserved { level } => reserved_rows(case, walk, level, rows),
+        End::Reserved { level } => {
+            reserved_rows(case, walk, level, rows);
+            type_row("reserved entry", walk, rows);
+        }
     }
+}
+
+/// Adds a refusal whose last entry has a memory type that is not told.
+fn type_row(refusal: &str, walk: &Walk, rows: &mut Vec<String>) {
+    let found = walk.memory_type() != 0;
+    rows.extend(found.then(|| format!("{refusal} with a memory type")));
 }
 
 /// Adds what is special in the settings and in the length of memory.
@@ -174,7 +199,17 @@ fn success_rows(case: &Case, walk: &Walk, rows: &mut Vec<String>) {
     rows.extend(twice.then(|| "success with one entry at two levels".into()));
     let plain = walk.steps.iter().all(|s| s.entry & walk::WRITABLE != 0);
     let lenient = case.access == WRITE && case.mode == SUPERVISOR && !plain;
-    rows.extend(lenient.then(|| "success of a supervisor write without R/W".into()));
+    let (first, last) = (walk.steps[0], walk.steps[walk.steps.len() - 1]);
+    let small = last.level == 1 && last.entry & walk::ATTRIBUTE == 0;
+    let odd_frame = small && last.entry & walk::LARGE_ATTRIBUTE != 0;
+    let upper = (first.entry >> 3 & 3, last.entry >> 3 & 3);
+    let mut add = |found: bool, row: &str| rows.extend(found.then(|| format!("success of {row}")));
+    add(lenient, "a supervisor write without R/W");
+    add(odd_frame, "a 4 KiB frame with bit 12 and PAT clear");
+    add(
+        upper.0 != upper.1,
+        "another memory type than the first entry's",
+    );
 }
 
 /// Adds each kind of reserved bit that the last entry has.

@@ -110,27 +110,28 @@ pub fn walked(
     memory: &mut [u8],
 ) -> (Answer, Walk) {
     let walk = walk::walk(settings, address, memory);
-    let entries = walk.steps.len() as u64;
-    let (answer, value, detail) = match walk.end {
-        End::Outside { address, level } => (Answer::OUTSIDE, address, level),
-        End::Missing { level } => (Answer::FAULT, code(settings, access, mode, 0), level),
-        End::Reserved { level } => (Answer::FAULT, code(settings, access, mode, 9), level),
-        End::Page { size } => {
-            let needed = Rights::needed(settings, access, mode);
-            if Rights::combined(&walk.steps).allow(needed) {
-                mark(&walk.steps, access == WRITE, memory);
-                (Answer::DONE, walk.physical(address), size)
-            } else {
-                let level = lacking(&walk.steps, needed);
-                (Answer::FAULT, code(settings, access, mode, 1), level)
-            }
-        }
-    };
-    let answer = Answer {
-        answer,
+    let given = |answer, value, detail| Answer {
         value,
         detail,
-        entries,
+        entries: walk.steps.len() as u64,
+        ..Answer::bare(answer)
+    };
+    let fault = |cause, level| given(Answer::FAULT, code(settings, access, mode, cause), level);
+    let needed = Rights::needed(settings, access, mode);
+    let answer = match walk.end {
+        End::Outside { address, level } => given(Answer::OUTSIDE, address, level),
+        End::Missing { level } => fault(0, level),
+        End::Reserved { level } => fault(9, level),
+        End::Page { .. } if !Rights::combined(&walk.steps).allow(needed) => {
+            fault(1, lacking(&walk.steps, needed))
+        }
+        End::Page { size } => {
+            mark(&walk.steps, access == WRITE, memory);
+            Answer {
+                memory_type: walk.memory_type(),
+                ..given(Answer::DONE, walk.physical(address), size)
+            }
+        }
     };
     (answer, walk)
 }

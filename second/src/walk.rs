@@ -5,11 +5,16 @@ use crate::settings::Settings;
 pub const PRESENT: u64 = 1 << 0;
 pub const WRITABLE: u64 = 1 << 1;
 pub const USER: u64 = 1 << 2;
+pub const WRITE_THROUGH: u64 = 1 << 3;
+pub const CACHE_DISABLE: u64 = 1 << 4;
 pub const ACCESSED: u64 = 1 << 5;
 pub const DIRTY: u64 = 1 << 6;
 pub const LARGE: u64 = 1 << 7;
 pub const GLOBAL: u64 = 1 << 8;
 pub const EXECUTE_DISABLE: u64 = 1 << 63;
+/// PAT of an entry of level 1, and of a large page.
+pub const ATTRIBUTE: u64 = 1 << 7;
+pub const LARGE_ATTRIBUTE: u64 = 1 << 12;
 /// Bits 51:12 of an entry.
 pub const FRAME: u64 = (1 << 52) - (1 << 12);
 
@@ -54,6 +59,12 @@ impl Walk {
         let offset = (1 << shift(last.level)) - 1;
         (last.entry & FRAME & !offset) | (address & offset)
     }
+
+    /// The memory type index that the last entry gives.
+    pub fn memory_type(&self) -> u64 {
+        let last = self.steps[self.steps.len() - 1];
+        memory_type(last.entry, last.level)
+    }
 }
 
 /// The lowest index bit of the level, which is also the logarithm of its page.
@@ -76,6 +87,17 @@ pub fn read_entry(memory: &[u8], address: u64) -> Option<u64> {
 /// Whether a present entry ends the walk with a page.
 pub fn is_page(entry: u64, level: u64) -> bool {
     level == 1 || (level < 4 && entry & LARGE != 0)
+}
+
+/// The memory type index of an entry that maps a page: 4 times PAT plus 2 times PCD plus PWT.
+pub fn memory_type(entry: u64, level: u64) -> u64 {
+    let attribute = if level == 1 {
+        ATTRIBUTE
+    } else {
+        LARGE_ATTRIBUTE
+    };
+    let bit = |mask: u64| u64::from(entry & mask != 0);
+    4 * bit(attribute) + 2 * bit(CACHE_DISABLE) + bit(WRITE_THROUGH)
 }
 
 /// The bits that must be clear in a present entry of the level.

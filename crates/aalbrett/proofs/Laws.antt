@@ -17,12 +17,12 @@ stores l m at number inside is = is ∙ rw (le-leb (at + 8) (length l) inside)
 keeps : (l m : List ℕ) (at number : ℕ) → m ≡ store 8 l at number → length m ≡ length l
 keeps l m at number is = ap length is ∙ store-length 8 l at number
 
--- four 64-bit stores write an answer
-pub four-stores : (n : Numbers) (l a b c d : List ℕ)
-    → 32 ≤ length l → a ≡ stored l 0 (n .answer) → b ≡ stored a 8 (n .value) → c ≡ stored b 16 (n .detail) → d ≡ stored c 24 (n .reads)
-    → d ≡ written n l
+-- five 64-bit stores write an answer
+pub five-stores : (n : Numbers) (l a b c d e : List ℕ)
+    → 40 ≤ length l → a ≡ stored l 0 (n .answer) → b ≡ stored a 8 (n .value) → c ≡ stored b 16 (n .detail) → d ≡ stored c 24 (n .reads)
+    → e ≡ stored d 32 (n .memoryType) → e ≡ written n l
 unfolding written
-four-stores n l a b c d long ea eb ec ed =
+five-stores n l a b c d e long ea eb ec ed ee =
     let fa = stores l a 0 (n .answer) (omega arith) ea in
     let ka = keeps l a 0 (n .answer) fa in
     let fb = stores a b 8 (n .value) (omega arith) eb in
@@ -30,4 +30,6 @@ four-stores n l a b c d long ea eb ec ed =
     let fc = stores b c 16 (n .detail) (omega arith) ec in
     let kc = keeps b c 16 (n .detail) fc in
     let fd = stores c d 24 (n .reads) (omega arith) ed in
-    rw (fd, fc, fb, fa)
+    let kd = keeps c d 24 (n .reads) fd in
+    let fe = stores d e 32 (n .memoryType) (omega arith) ee in
+    rw (fe, fd, fc, fb, fa)

@@ -20,7 +20,7 @@ WalkRefused =
     → not (eqb (result cr0 cr3 cr4 efer width address access mode memory buffer) 0) ≡ true
     → memoryAfter cr0 cr3 cr4 efer width address access mode memory buffer ≡ memory
 
--- "Below 32 bytes the call gives 7 and writes nothing"
+-- "Below [40] bytes the call gives 7 and writes nothing"
 abbrev pub WalkShort : Type 0
 WalkShort =
     (cr0 cr3 cr4 efer width address access mode : ℕ) (memory buffer : List ℕ) → short buffer ≡ true

@@ -10,13 +10,14 @@ use Rattle.settings.specs.declared.Settings.{Settings}
 use Rattle.walk.specs.declared.Numbers.{Numbers}
 use Rattle.walk.specs.Translate.{translated, translatedMemory, numbers}
 
--- "Below 32 bytes"
+-- "7 now means below 40 bytes"
 abbrev pub short : List ℕ → Bool
-short buffer = ltb (length buffer) 32
+short buffer = ltb (length buffer) 40
 
--- "the first 32 bytes become answer, value, detail and entries read, as four little-endian 64-bit numbers [..]; later bytes stay"
+-- "the first [40] bytes become answer, value, detail and entries read", and the memory type, "the fifth number of the host's answer", as little-endian 64-bit numbers; "later bytes stay"
 unfoldable pub written : Numbers → List ℕ → List ℕ
-written n buffer = store 8 (store 8 (store 8 (store 8 buffer 0 (n .answer)) 8 (n .value)) 16 (n .detail)) 24 (n .reads)
+written n buffer =
+    store 8 (store 8 (store 8 (store 8 (store 8 buffer 0 (n .answer)) 8 (n .value)) 16 (n .detail)) 24 (n .reads)) 32 (n .memoryType)
 
 -- the host's numbers as a settings record
 abbrev pub registers : ℕ → ℕ → ℕ → ℕ → ℕ → Settings
@@ -24,11 +25,11 @@ registers cr0 cr3 cr4 efer width = record { cr0 = cr0; cr3 = cr3; cr4 = cr4; efe
 
 -- what the host hands over, in the order of its call
 module _ (cr0 cr3 cr4 efer width address access mode : ℕ) (memory buffer : List ℕ) where
-  -- the four numbers of one uncached translation
+  -- the five numbers of one uncached translation
   abbrev pub answerNumbers : Numbers
   answerNumbers = numbers (translated (registers cr0 cr3 cr4 efer width) (record { 0 = address }) access mode memory)
 
-  -- the result: "Below 32 bytes the call gives 7 [..]; this is tested first. Otherwise it returns the answer"
+  -- the result: "Below [40] bytes the call gives 7 [..]; this is tested first. Otherwise it returns the answer"
   abbrev pub result : ℕ
   result = cond (short buffer) 7 (answerNumbers .answer)
 

@@ -16,7 +16,7 @@ mod start;
 // The number answered where the answer buffer is short.
 const SHORT: u64 = 7;
 
-// One uncached walk of guest memory: gives the answer's number, and writes its four numbers to the buffer.
+// One uncached walk of guest memory: gives the answer's number, and writes its five numbers to the buffer.
 #[no_mangle]
 pub extern "C" fn aalbrett_walk(
     cr0: u64,
@@ -66,7 +66,7 @@ pub extern "C" fn aalbrett_start(
     begun.number
 }
 
-// One card's step on a machine that the host lends: gives the answer's number, and writes its four numbers to the buffer.
+// One card's step on a machine that the host lends: gives the answer's number, and writes its five numbers to the buffer.
 #[no_mangle]
 pub extern "C" fn aalbrett_step(
     machine: &mut Machine,

@@ -32,6 +32,7 @@ pub record Filled (i : ℕ) (p : Place) : Type 0 where
   pub frame-below : p .frame .0 < 2 ^ 40
   pub size-from : 1 ≤ p .size
   pub size-to : p .size ≤ 3
+  pub type-below : p .memoryType < 8
 
 pub filled-has : (i : ℕ) (p : Place) → filledIn i p ≡ true → Filled i p
 unfolding filledIn
@@ -40,7 +41,8 @@ filled-has i p h =
     let b = and-true (ltb (p .tag) (2 ^ 52) && eqb (setIndex (p .tag)) i) _ (a .1) in
     let c = and-true (ltb (p .tag) (2 ^ 52)) _ (b .0) in
     let d = and-true (ltb (p .frame .0) (2 ^ 40)) _ (b .1) in
-    let e = and-true (leb 1 (p .size)) _ (d .1) in
+    let f = and-true (leb 1 (p .size) && leb (p .size) 3) _ (d .1) in
+    let e = and-true (leb 1 (p .size)) _ (f .0) in
     record {
       is-marked = a .0;
       tag-below = ltb-true (p .tag) (2 ^ 52) (c .0);
@@ -48,6 +50,7 @@ filled-has i p h =
       frame-below = ltb-true (p .frame .0) (2 ^ 40) (d .0);
       size-from = leb-true 1 (p .size) (e .0);
       size-to = leb-true (p .size) 3 (e .1);
+      type-below = ltb-true (p .memoryType) 8 (f .1);
     }
 
 pub has-filled : (i : ℕ) (p : Place) → Filled i p → filledIn i p ≡ true
@@ -60,6 +63,7 @@ has-filled i p h =
       lt-ltb (p .frame .0) (2 ^ 40) (h .frame-below),
       le-leb 1 (p .size) (h .size-from),
       le-leb (p .size) 3 (h .size-to),
+      lt-ltb (p .memoryType) 8 (h .type-below),
     )
 
 -- zeros are not filled

@@ -18,16 +18,16 @@ hasG p = bit (p .flags) 4
 -- "all zeros"
 abbrev pub zeroPlace : Place
 zeroPlace =
-    record { tag = 0; frame = record { 0 = 0 }; size = 0; flags = 0 }
+    record { tag = 0; frame = record { 0 = 0 }; size = 0; flags = 0; memoryType = 0 }
 
 -- "its set is tag mod 16"
 abbrev pub setIndex : ℕ → ℕ
 setIndex tag = tag % 16
 
--- "A place counts as filled only if marked, its tag is below 2^52 and belongs to that set, its frame is below 2^40 and its size is 1 to 3"
+-- "A place counts as filled only if marked, its tag is below 2^52 and belongs to that set, its frame is below 2^40 and its size is 1 to 3"; the memory type index is "below 8 in a filled place"
 unfoldable pub filledIn : ℕ → Place → Bool
 filledIn i p =
-    isMarked p && ((ltb (p .tag) (2 ^ 52) && eqb (setIndex (p .tag)) i) && (ltb (p .frame .0) (2 ^ 40) && (leb 1 (p .size) && leb (p .size) 3)))
+    isMarked p && ((ltb (p .tag) (2 ^ 52) && eqb (setIndex (p .tag)) i) && (ltb (p .frame .0) (2 ^ 40) && ((leb 1 (p .size) && leb (p .size) 3) && ltb (p .memoryType) 8)))
 
 -- what drops ask of a place, and of the walk that left it: its tag, its size, and whether it is G
 pub record Key : Type 0 where

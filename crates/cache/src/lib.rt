@@ -12,6 +12,7 @@ pub struct Place {
     pub frame: Frame,
     pub size: u8,
     pub flags: u8,
+    pub memoryType: u8,
 }
 
 // Four places, the one filled last in front.

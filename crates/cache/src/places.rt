@@ -35,6 +35,7 @@ impl Place {
             frame: Frame(0),
             size: 0,
             flags: 0,
+            memoryType: 0,
         }
     }
 
@@ -45,7 +46,8 @@ impl Place {
         let own = Cache::set_of(self.tag);
         let tag = (self.tag < 0x10_0000_0000_0000) & (own == set);
         let size = (1 <= self.size) & (self.size <= 3);
-        (self.flags / Place::MARKED % 2 == 1) & (tag & ((self.frame.0 < 0x100_0000_0000) & size))
+        let page = size & (self.memoryType < 8);
+        (self.flags / Place::MARKED % 2 == 1) & (tag & ((self.frame.0 < 0x100_0000_0000) & page))
     }
 
     // Whether the place's own page, at its own size, contains the page of a tag.

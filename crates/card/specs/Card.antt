@@ -56,7 +56,7 @@ callOf k card =
 unfoldable pub decoded : List ℕ → Decoded
 decoded card = cond (eqb (length card) 32) (callOf (kind card) card) (Decoded.Refused 6)
 
--- what a card gives: the four numbers, the machine and memory afterwards
+-- what a card gives: the five numbers, the machine and memory afterwards
 pub record Turned : Type 0 where
   pub numbers : Numbers
   pub machine : Machine

@@ -14,7 +14,7 @@ pub enum Decoded {
     Refused(u64),
 }
 
-// What a card's step gives beside memory: the four numbers and the machine afterwards.
+// What a card's step gives beside memory: the five numbers and the machine afterwards.
 pub struct Turn {
     pub numbers: Numbers,
     pub machine: Machine,

@@ -1,4 +1,5 @@
 pub mod Mark
 pub mod Masks
+pub mod Memory
 pub mod Rights
 pub mod Says

@@ -1,7 +1,8 @@
-// One table entry: reading it, what it says at its level, its rights, marking it.
+// One table entry: reading it, what it says at its level, its rights, its memory type, marking it.
 pub mod bits;
 pub mod mark;
 pub mod meaning;
+pub mod memory;
 pub mod read;
 pub mod rights;
 

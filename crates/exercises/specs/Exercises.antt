@@ -76,7 +76,7 @@ supervisor = 0
 abbrev pub user : ℕ
 user = 1
 
--- what comes out: the four numbers, and entries afterwards
+-- what comes out: the five numbers, and entries afterwards
 pub record Outcome : Type 0 where
   pub numbers : Numbers
   pub afterwards : List Stored
@@ -93,15 +93,20 @@ abbrev pub ask : Settings → ℕ → ℕ → ℕ → Outcome → Exercise
 ask settings mode access address gives =
     record { settings = settings; mode = mode; access = access; address = address; gives = gives }
 
--- the outcomes of document 01: an address with size and entries read, a fault or an entry outside with level and entries read, a form
+-- the outcomes of document 01: an address with size, entries read and, by #104, its memory type, a fault or an entry outside with level and entries read, a form
+abbrev pub typed : ℕ → ℕ → ℕ → ℕ → List Stored → Outcome
+typed memoryType at size reads after =
+    record { numbers = record { answer = 0; value = at; detail = size; reads = reads; memoryType = memoryType }; afterwards = after }
+
+-- memory type 0, where PWT, PCD and PAT are clear
 abbrev pub done : ℕ → ℕ → ℕ → List Stored → Outcome
-done at size reads after = record { numbers = record { answer = 0; value = at; detail = size; reads = reads }; afterwards = after }
+done at size reads after = typed 0 at size reads after
 
 abbrev pub fault : ℕ → ℕ → ℕ → Outcome
-fault code level reads = record { numbers = record { answer = 5; value = code; detail = level; reads = reads }; afterwards = [] }
+fault code level reads = record { numbers = record { answer = 5; value = code; detail = level; reads = reads; memoryType = 0 }; afterwards = [] }
 
 abbrev pub outside : ℕ → ℕ → ℕ → Outcome
-outside at level reads = record { numbers = record { answer = 4; value = at; detail = level; reads = reads }; afterwards = [] }
+outside at level reads = record { numbers = record { answer = 4; value = at; detail = level; reads = reads; memoryType = 0 }; afterwards = [] }
 
 abbrev pub form : Outcome
 form = record { numbers = refusal 3; afterwards = [] }
@@ -128,7 +133,7 @@ exercises =
     ∷ ask usual user read 0x52345678 (done 0x92345678 3 2 [])
     -- "user read 0x800000: fault 13, level 2; user read 0xA00010: 0x800010"
     ∷ ask usual user read 0x800000 (fault 13 2 3)
-    ∷ ask usual user read 0xA00010 (done 0x800010 2 3 [])
+    ∷ ask usual user read 0xA00010 (typed 4 0x800010 2 3 [])
     -- "user write 0x406000: fault 7, level 1; supervisor: 3; supervisor, WP = 0: 0x6000, entry 0x6065"
     ∷ ask usual user write 0x406000 (fault 7 1 4)
     ∷ ask usual supervisor write 0x406000 (fault 3 1 4)

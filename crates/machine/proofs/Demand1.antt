@@ -34,7 +34,7 @@ record Leaves (m : Machine) (memory : List ℕ) (c : Call) (r : Result) : Type 0
 
 -- a refusal's number
 named : (r : Answer) → refused r ≡ true → among (numbers r .answer) refusals ≡ true
-named (Answer.Done at size n) h = absurd (false≢true h)
+named (Answer.Done t) h = absurd (false≢true h)
 named Answer.Unknown h = refl
 named (Answer.NotServed Width) h = refl
 named (Answer.NotServed Root) h = refl

@@ -1,6 +1,6 @@
 -- A hit where each entry holds what the walk left: the fresh walk gives the same, and marks nothing.
 use Prim.Native.Nat.{ℕ, _/_, _≤_}
-use mathlib.Core.Path.{_≡_, sym, ap, subst, _∙_}
+use mathlib.Core.Path.{_≡_, sym, ap, ap₂, subst, _∙_}
 use mathlib.Core.Bool.{Bool, true, not, _&&_, _||_}
 use mathlib.Core.List.{List, [], _∷_}
 use lib.ListN.{length}
@@ -11,6 +11,7 @@ use Rattle.settings.specs.Settings.{nxe, pge, root}
 use Rattle.address.specs.declared.PhysAddr.{PhysAddr}
 use Rattle.address.specs.declared.VirtAddr.{VirtAddr}
 use Rattle.address.specs.Address.{tag, offset, plus, frameOf, inFrame}
+use Rattle.entry.specs.Memory.{memoryType}
 use Rattle.entry.specs.Rights.{number, allow}
 use Rattle.entry.specs.Says.{says}
 use Rattle.walk.specs.declared.Way.{Way}
@@ -30,12 +31,12 @@ use Rattle.machine.specs.History.{Walk, leftIn, walkOf}
 use Rattle.machine.specs.Holds.{Holds}
 use Rattle.machine.specs.Demand3.{withoutReads}
 use Rattle.machine.proofs.Flags.{given, allGiven, flags-each}
-use Rattle.machine.proofs.Values.{Grown, since-is-grown}
+use Rattle.machine.proofs.Values.{Grown, since-is-grown, type-same}
 use Rattle.machine.proofs.Frames.{same-frame, base-frame}
 use Rattle.machine.proofs.Paths.{All, refreshed}
 use Rattle.machine.proofs.Reading.{Ending}
 use Rattle.machine.proofs.Rules.{number-write, number-user, number-fetch, given-allow, given-there}
-use Rattle.machine.proofs.Rewalk.{Success, succeeds, end-now, rights-now, memory-now}
+use Rattle.machine.proofs.Rewalk.{Success, succeeds, end-now, last-grew, rights-now, memory-now}
 use Rattle.machine.proofs.Places.{Alike, root-aligned, its, its-ending, found-memory, found-key}
 
 -- what the entries read hold only grew
@@ -122,11 +123,17 @@ module _ (s under : Settings) (alike : Alike under s) (wide : 7 ≤ under .width
       → withoutReads (hit address (placeOf under at how found)) ≡ withoutReads (answered s address a (walkAnswer s address a m))
   now-told allowed =
       ap (λ (f : Mapping). withoutReads (hit address (placeOf under at how f))) (then .is-found)
-      ∙ ap (λ (x : PhysAddr). record { answer = 0; value = x .0; detail = then .last .level; reads = 0 }) one-frame
+      ∙ ap₂ (λ (x : PhysAddr) (n : ℕ). record { answer = 0; value = x .0; detail = then .last .level; reads = 0; memoryType = n }) one-frame one-type
       ∙ ap (λ (w : Walked). withoutReads (answered s address a w)) (sym (now-finds allowed))
     where
       ending : Ending (then .last) (then .base)
       ending = its-ending under at how m₀ found h
+
+      one-type : memoryType (then .last .level) (then .last .value) ≡ memoryType (then .last .level) (load 8 m (then .last .address))
+      one-type =
+          type-same (then .last .level) (then .last .value) (load 8 m (then .last .address))
+          (last-grew (under .width) (nxe under) wide (root under .0) (root-aligned under) m₀ m as-long at address same-page (writes how)
+          (then .last) (then .base) (then .at-end) grew)
 
       one-frame : inFrame (frameOf (plus (record { 0 = then .base }) (offset at (then .last .level)))) (offset address 1)
           ≡ plus (record { 0 = then .base }) (offset address (then .last .level))

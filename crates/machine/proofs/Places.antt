@@ -1,14 +1,16 @@
 -- The place that a successful walk leaves: it is filled, serves the same access again, and has the walk's key.
-use Prim.Native.Nat.{ℕ, _%_, _≤_}
+use Prim.Native.Nat.{ℕ, _+_, _%_, _≤_, _<_}
 use native.Mathlib.Omega.{arith}
 use mathlib.Core.Path.{_≡_, refl, sym, ap, subst, _∙_}
-use mathlib.Core.Bool.{Bool, true, not, _&&_, _||_}
+use mathlib.Core.Bool.{Bool, true, false, not, _&&_, _||_, cond}
 use mathlib.Core.List.{List}
+use lib.Dec.{lit<}
 use Rattle.word.specs.Bits.{bit, includes}
 use Rattle.settings.specs.declared.Settings.{Settings}
 use Rattle.settings.specs.Settings.{nxe, pge, root}
 use Rattle.address.specs.declared.VirtAddr.{VirtAddr}
 use Rattle.address.specs.Address.{tag, canonical}
+use Rattle.entry.specs.Memory.{pat, memoryType}
 use Rattle.entry.specs.Rights.{number}
 use Rattle.walk.specs.declared.Way.{Way}
 use Rattle.walk.specs.declared.Mapping.{Mapping}
@@ -42,6 +44,20 @@ root-aligned s = omega arith
 pub wanted-same : (s s′ : Settings) (first later : VirtAddr) (a : Way) → Alike s s′ → tag first ≡ tag later → wanted s first a ≡ wanted s′ later a
 wanted-same s s′ first later a alike same =
     λ i. record { tag = same i; flags = withDirty (number (writes a && (a .user || bit (alike .cr0-same i) 16)) (a .user) (fetches a)) (writes a) }
+
+-- a memory type index is below 8
+type-small : (level v : ℕ) → memoryType level v < 8
+type-small level v = go (pat level v) (bit v 4) (bit v 3)
+  where
+    go : (a b c : Bool) → cond a 4 0 + (cond b 2 0 + cond c 1 0) < 8
+    go true true true = lit< tt
+    go true true false = lit< tt
+    go true false true = lit< tt
+    go true false false = lit< tt
+    go false true true = lit< tt
+    go false true false = lit< tt
+    go false false true = lit< tt
+    go false false false = lit< tt
 
 -- A success and its place.
 module _ (s : Settings) (va : VirtAddr) (a : Way) (m : List ℕ) (found : Mapping) (h : walkAnswer s va a m ≡ Mapped found) where
@@ -81,6 +97,7 @@ module _ (s : Settings) (va : VirtAddr) (a : Way) (m : List ℕ) (found : Mappin
         frame-below = frame-small (its .last .value) (its .last .level) va (its .base) (its-ending .level-from) (its-ending .level-to) (its-ending .base-is);
         size-from = its-ending .level-from;
         size-to = its-ending .level-to;
+        type-below = type-small (its .last .level) (its .last .value);
       }))
 
   -- the rights of all its entries, one by one

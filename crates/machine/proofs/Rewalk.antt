@@ -124,6 +124,10 @@ module _ (width : ℕ) (nxe : Bool) (wide : 7 ≤ width) (root : ℕ) (root-alig
     pub end-now : endOf now ≡ page (refreshed m e) b
     end-now = ap endOf again ∙ end-again m before ∙ ap (rereadEnd m) at-end
 
+    -- the last entry grew at most
+    pub last-grew : Grown (e .value) (load 8 m (e .address))
+    last-grew = last-has (Kept m) before e b at-end kept
+
     pub rights-now : rights now ≡ rights before
     rights-now = ap (λ (p : Path). rights p) again ∙ rights-again m before kept
 

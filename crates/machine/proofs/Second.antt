@@ -8,6 +8,7 @@ use lib.ListN.{length, take}
 use Rattle.settings.specs.declared.Settings.{Settings}
 use Rattle.address.specs.declared.VirtAddr.{VirtAddr}
 use Rattle.address.specs.Address.{tag, offset}
+use Rattle.entry.specs.Memory.{memoryType}
 use Rattle.walk.specs.declared.Way.{Way}
 use Rattle.walk.specs.declared.Asked.the-variants as Asked
 use Rattle.walk.specs.declared.Mapping.{Mapping}
@@ -52,7 +53,7 @@ piece x y = omega arith
 again-numbers : (s : Settings) (first later : VirtAddr) (a : Way) (f : Mapping)
     → numbers (hit later (placeOf s first a f)) ≡ again (numbers (answered s first a (Walked.Mapped f))) later
 again-numbers s first later a f =
-    ap (λ (x : ℕ). record { answer = 0; value = x; detail = f .size; reads = 0 }) (piece (f .base .0 + offset first (f .size)) (later .0))
+    ap (λ (x : ℕ). record { answer = 0; value = x; detail = f .size; reads = 0; memoryType = memoryType (f .size) (f .last) }) (piece (f .base .0 + offset first (f .size)) (later .0))
 
 module _ (now : Stand) (sixteen : Sixteen (now .machine .cache)) (first later : VirtAddr) (access mode : ℕ) (pages : List ℕ)
     (between : List Event) (same : tag later ≡ tag first) (at-most : length pages ≤ others) where

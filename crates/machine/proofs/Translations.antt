@@ -17,7 +17,7 @@ use Rattle.walk.specs.declared.Mapping.{Mapping}
 use Rattle.walk.specs.declared.Walked.{Walked}
 use Rattle.walk.specs.declared.Walked.the-variants as Walked
 use Rattle.walk.specs.Walk.{after, walkAnswer, walkMemory}
-use Rattle.walk.specs.Translate.{asked, answered, translated, translatedMemory}
+use Rattle.walk.specs.Translate.{unpaged, asked, answered, translated, translatedMemory}
 use Rattle.cache.specs.declared.Found.{Found}
 use Rattle.cache.specs.declared.Found.the-variants as Found
 use Rattle.cache.specs.declared.Drop.the-variants.{Page}
@@ -113,7 +113,7 @@ module _ (m : Machine) (memory : List ℕ) (address : VirtAddr) (access mode : �
   by-asked Asked.Unknown is = quiet Answer.Unknown refl refl (rw is) (rw is) (rw is)
   by-asked (Asked.NotServed why) is = quiet (Answer.NotServed why) (not-succeeded why) (not-faulted why) (rw is) (rw is) (rw is)
   by-asked Asked.Form is = quiet Answer.Form refl refl (rw is) (rw is) (rw is)
-  by-asked (Asked.Off at) is = quiet (Answer.Done at 0 0) refl refl (rw is) (rw is) (rw is)
+  by-asked (Asked.Off at) is = quiet (Answer.Done (unpaged at)) refl refl (rw is) (rw is) (rw is)
   by-asked (Asked.On a) is = by-found a (findCache (wanted s address a) (m .cache)) is refl
 
   pub goes : Goes

@@ -9,6 +9,7 @@ use lib.Dec.{eqb, leb, ltb, lit≤}
 use Rattle.word.specs.Bits.{bit, field, withBit}
 use Rattle.entry.specs.declared.Says.{Says}
 use Rattle.entry.specs.declared.Says.the-variants.{Missing, Reserved, Table, Page}
+use Rattle.entry.specs.Memory.{memoryType}
 use Rattle.entry.specs.Says.{says, largest}
 use Rattle.entry.specs.Mark.{markByte}
 use Rattle.address.specs.Address.{pageBits}
@@ -93,6 +94,22 @@ bit-1 v v′ g = let same : v / 2 % 2 ≡ v′ / 2 % 2 = omega (arith, g .low) i
 
 pub bit-2 : (v v′ : ℕ) → Grown v v′ → bit v 2 ≡ bit v′ 2
 bit-2 v v′ g = let same : v / 4 % 2 ≡ v′ / 4 % 2 = omega (arith, g .low) in ap (λ (x : ℕ). eqb x 1) same
+
+pub bit-3 : (v v′ : ℕ) → Grown v v′ → bit v 3 ≡ bit v′ 3
+bit-3 v v′ g = let same : v / 8 % 2 ≡ v′ / 8 % 2 = omega (arith, g .low) in ap (λ (x : ℕ). eqb x 1) same
+
+pub bit-4 : (v v′ : ℕ) → Grown v v′ → bit v 4 ≡ bit v′ 4
+bit-4 v v′ g = let same : v / 16 % 2 ≡ v′ / 16 % 2 = omega (arith, g .low) in ap (λ (x : ℕ). eqb x 1) same
+
+-- the memory type index does not look at A and D
+pub type-same : (level v v′ : ℕ) → Grown v v′ → memoryType level v ≡ memoryType level v′
+type-same level v v′ g = go (leb level 1)
+  where
+    go : (low : Bool) → cond ((low || bit v 7) && bit v (cond low 7 12)) 4 0 + (cond (bit v 4) 2 0 + cond (bit v 3) 1 0)
+        ≡ cond ((low || bit v′ 7) && bit v′ (cond low 7 12)) 4 0 + (cond (bit v′ 4) 2 0 + cond (bit v′ 3) 1 0)
+    go true = λ i. cond (bit-high v v′ 7 g (lit≤ tt) i) 4 0 + (cond (bit-4 v v′ g i) 2 0 + cond (bit-3 v v′ g i) 1 0)
+    go false =
+        λ i. cond (bit-high v v′ 7 g (lit≤ tt) i && bit-high v v′ 12 g (lit≤ tt) i) 4 0 + (cond (bit-4 v v′ g i) 2 0 + cond (bit-3 v v′ g i) 1 0)
 
 -- what an entry says at its level, from the parts that it looks at
 abbrev saying : Bool → ℕ → Bool → Bool → Bool → ℕ → ℕ → ℕ → ℕ → Says

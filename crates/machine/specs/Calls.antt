@@ -14,7 +14,7 @@ use Rattle.walk.specs.declared.Way.{Way}
 use Rattle.walk.specs.declared.Answer.{Answer}
 use Rattle.walk.specs.declared.Answer.the-variants as Answer
 use Rattle.walk.specs.Walk.{walkAnswer, walkMemory}
-use Rattle.walk.specs.Translate.{answered}
+use Rattle.walk.specs.Translate.{answered, unpaged}
 use Rattle.cache.specs.declared.Cache.{Cache}
 use Rattle.cache.specs.declared.Drop.the-variants.{Page, Local}
 use Rattle.cache.specs.Places.{setIndex}
@@ -44,7 +44,7 @@ withMemory memory r = record { answer = r .answer; machine = r .machine; memory 
 
 -- "done" where no translation was asked: "else 0"
 abbrev pub done : Answer
-done = Answer.Done (record { 0 = 0 }) 0 0
+done = Answer.Done (unpaged (record { 0 = 0 }))
 
 -- the machine with another cache
 abbrev pub withCache : Machine → Cache → Machine

@@ -39,7 +39,7 @@ Premise now (walk w) = (root (now .machine .settings) ≡ w .root) × Holds (now
 
 -- "address and size, or refusal": number, value and detail of an answer, and not its entries read
 abbrev pub withoutReads : Answer → Numbers
-withoutReads r = record { answer = numbers r .answer; value = numbers r .value; detail = numbers r .detail; reads = 0 }
+withoutReads r = record { answer = numbers r .answer; value = numbers r .value; detail = numbers r .detail; reads = 0; memoryType = numbers r .memoryType }
 
 -- "Then address and size, or refusal, and the memory afterwards are those of a fresh walk."
 abbrev pub AsFresh : Stand → VirtAddr → ℕ → ℕ → Type 0
@@ -85,7 +85,7 @@ walkBy now address access mode = walkOf (now .machine .settings) address (now .m
 
 -- the frame and size of an earlier answer, at another address of the page, with "no entry read"
 abbrev pub again : Numbers → VirtAddr → Numbers
-again before address = record { answer = 0; value = before .value / 4096 * 4096 + address .0 % 4096; detail = before .detail; reads = 0 }
+again before address = record { answer = 0; value = before .value / 4096 * 4096 + address .0 % 4096; detail = before .detail; reads = 0; memoryType = before .memoryType }
 
 -- "a page walked with success and later asked for in the same way reports no entry read": the same access and mode, any offset;
 -- "With paging on": with paging off no call reads an entry, so none has succeeded here

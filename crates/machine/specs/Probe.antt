@@ -7,7 +7,7 @@ use Rattle.walk.specs.declared.Way.{Way}
 use Rattle.walk.specs.declared.Asked.{Asked}
 use Rattle.walk.specs.declared.Asked.the-variants as Asked
 use Rattle.walk.specs.declared.Answer.the-variants as Answer
-use Rattle.walk.specs.Translate.{asked}
+use Rattle.walk.specs.Translate.{asked, unpaged}
 use Rattle.cache.specs.declared.Found.{Found}
 use Rattle.cache.specs.declared.Found.the-variants as Found
 use Rattle.cache.specs.declared.Set.{Set}
@@ -27,7 +27,7 @@ abbrev pub probedAsked : Settings → Set → VirtAddr → Asked → Probed
 probedAsked s set address Asked.Unknown = Answered Answer.Unknown
 probedAsked s set address (Asked.NotServed why) = Answered (Answer.NotServed why)
 probedAsked s set address Asked.Form = Answered Answer.Form
-probedAsked s set address (Asked.Off at) = Answered (Answer.Done at 0 0)
+probedAsked s set address (Asked.Off at) = Answered (Answer.Done (unpaged at))
 probedAsked s set address (Asked.On a) = probedFound address a (findIn (setIndex (tag address)) (wanted s address a) set)
 
 -- what a translation finds in a set

@@ -6,6 +6,7 @@ use Rattle.settings.specs.declared.Settings.{Settings}
 use Rattle.settings.specs.Settings.{pge}
 use Rattle.address.specs.declared.VirtAddr.{VirtAddr}
 use Rattle.address.specs.Address.{tag, offset, plus, frameOf, inFrame}
+use Rattle.entry.specs.Memory.{memoryType}
 use Rattle.entry.specs.Rights.{number}
 use Rattle.walk.specs.declared.Way.{Way}
 use Rattle.walk.specs.declared.Mapping.{Mapping}
@@ -32,19 +33,21 @@ wanted s address a = record { tag = tag address; flags = withDirty (number (need
 abbrev pub flagsOf : Bool → Bool → Bool → Bool → Bool → ℕ
 flagsOf write user fetch dirty global = withDirty (number write user fetch) dirty + cond global 16 0 + 32
 
--- "Every page is held as a 4 KiB piece: tag, frame, size, combined R/W, U/S and fetch rights, D as left by the walk, and G (kept only if PGE = 1)."
+-- "Every page is held as a 4 KiB piece: tag, frame, size, combined R/W, U/S and fetch rights, D as left by the walk, and G (kept only if PGE = 1)."; "The cache keeps" the memory type index
 abbrev pub placeOf : Settings → VirtAddr → Way → Mapping → Place
 placeOf s address a m =
     record {
       tag = tag address;
       frame = frameOf (plus (m .base) (offset address (m .size)));
       size = m .size;
+      memoryType = memoryType (m .size) (m .last);
       flags = flagsOf (bit (m .rights) 0) (bit (m .rights) 1) (bit (m .rights) 2) (bit (m .last) 6 || writes a) (bit (m .last) 8 && pge s);
     }
 
--- what a hit is answered: the place's frame and the offset in the page of 4 KiB, its size, no entry read
+-- what a hit is answered: the place's frame and the offset in the page of 4 KiB, its size and memory type, no entry read
 abbrev pub hit : VirtAddr → Place → Answer
-hit address p = Done (inFrame (p .frame) (offset address 1)) (p .size) 0
+hit address p =
+    Done (record { address = inFrame (p .frame) (offset address 1); size = p .size; memoryType = p .memoryType; reads = 0 })
 
 -- "A success removes all places with that tag [..] and puts the new one first"; a fault or a table outside memory "drops the page asked for", "by the same rule" as a page drop
 abbrev pub remembered : Settings → Cache → VirtAddr → Way → Walked → Cache

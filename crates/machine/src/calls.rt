@@ -9,6 +9,7 @@ use cache::Drop;
 use settings::Service;
 use settings::Settings;
 use walk::Answer;
+use walk::translate::unpaged;
 use word::bytes::store64;
 ghost use mathlib.Core.Path.{_≡_};
 ghost use Rattle.machine.specs.Calls as spec;
@@ -17,7 +18,7 @@ ghost use Rattle.machine.specs.Calls as spec;
 fn done() -> Answer
     ensures { λ r. ⌜ r ≡ spec.done ⌝ }
 {
-    Answer::Done(PhysAddr(0), 0, 0)
+    Answer::Done(unpaged(PhysAddr(0)))
 }
 
 // The machine that a load leaves: judged by the settings that it would leave, and refused as it was.

@@ -4,9 +4,11 @@ use cache::Place;
 use cache::Wanted;
 use entry::bits::D;
 use entry::bits::G;
+use entry::memory::memory_type;
 use settings::Settings;
 use walk::Answer;
 use walk::Mapping;
+use walk::Translation;
 use walk::Way;
 use walk::walk::needs_write;
 use word::bits::bit;
@@ -60,7 +62,8 @@ pub(crate) fn place_of(settings: Settings, address: VirtAddr, way: Way, found: M
     ensures { λ r. ⌜ r ≡ spec.placeOf settings address way found ⌝ }
 {
     let base = found.base;
-    let physical = base.plus(address.offset(found.size as u64));
+    let level = found.size as u64;
+    let physical = base.plus(address.offset(level));
     let frame = physical.frame();
     let global = bit(found.last, G);
     let pge = settings.pge();
@@ -75,6 +78,7 @@ pub(crate) fn place_of(settings: Settings, address: VirtAddr, way: Way, found: M
         tag: address.tag(),
         frame,
         size: found.size,
+        memoryType: memory_type(found.last, level),
         flags: rights + flag(global & pge, Place::GLOBAL) + Place::MARKED,
     }
 }
@@ -85,5 +89,10 @@ pub(crate) fn hit(address: VirtAddr, place: Place) -> Answer
 {
     let frame = place.frame;
     let offset = address.offset(FOUR_KIB);
-    Answer::Done(frame.at(offset), place.size as u64, 0)
+    Answer::Done(Translation {
+        address: frame.at(offset),
+        size: place.size as u64,
+        memoryType: place.memoryType as u64,
+        reads: 0,
+    })
 }

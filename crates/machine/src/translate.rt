@@ -18,6 +18,7 @@ use walk::Walked;
 use walk::Way;
 use walk::translate::answer;
 use walk::translate::ask;
+use walk::translate::unpaged;
 use walk::walk::walk;
 ghost use mathlib.Core.Path.{_≡_};
 ghost use Rattle.address.specs.Address.{tag};
@@ -35,7 +36,7 @@ pub fn probe(settings: Settings, set: Set, address: VirtAddr, access: u64, mode:
         Asked::Unknown => Probed::Answered(Answer::Unknown),
         Asked::NotServed(why) => Probed::Answered(Answer::NotServed(why)),
         Asked::Form => Probed::Answered(Answer::Form),
-        Asked::Off(at) => Probed::Answered(Answer::Done(at, 0, 0)),
+        Asked::Off(at) => Probed::Answered(Answer::Done(unpaged(at))),
         Asked::On(a) => {
             let want = wanted(settings, address, a);
             match set.find(Cache::set_of(address.tag()), want) {

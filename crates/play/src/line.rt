@@ -1,4 +1,4 @@
-// The line of one card: its number from 1, answer, value in 16 hexadecimal digits, detail, entries read.
+// The line of one card: its number from 1, answer, value in 16 hexadecimal digits, detail, entries read, memory type.
 use walk::Numbers;
 ghost use mathlib.Core.Path.{_≡_};
 ghost use Prim.Native.Nat.{_+_, _≤_};
@@ -49,12 +49,13 @@ fn put_hex(line: &mut [u8], at: usize, number: u64) -> usize
 
 // Puts a card's line into a text at a place; gives the place after it.
 pub(crate) fn put_line(text: &mut [u8], at: usize, card: u64, numbers: Numbers) -> usize
-    requires { ⌜ at + 105 ≤ length (now text) ⌝ }
-    ensures { λ r. ⌜ (r ≤ at + 105) × (length (now (text .exit)) ≡ length (now (text .entry))) ⌝ }
+    requires { ⌜ at + 126 ≤ length (now text) ⌝ }
+    ensures { λ r. ⌜ (r ≤ at + 126) × (length (now (text .exit)) ≡ length (now (text .entry))) ⌝ }
 {
     let a = put_decimal(text, at, card, b' ');
     let b = put_decimal(text, a, numbers.answer, b' ');
     let c = put_hex(text, b, numbers.value);
     let d = put_decimal(text, c, numbers.detail, b' ');
-    put_decimal(text, d, numbers.reads, b'\n')
+    let e = put_decimal(text, d, numbers.reads, b' ');
+    put_decimal(text, e, numbers.memoryType, b'\n')
 }

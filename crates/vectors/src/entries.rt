@@ -6,6 +6,7 @@ use address::PhysAddr;
 use entry::Says;
 use entry::mark::mark;
 use entry::meaning::says;
+use entry::memory::memory_type;
 use entry::read::look;
 use entry::rights::own;
 use word::Loaded;
@@ -66,6 +67,17 @@ fn rights(entry: u64) {
     right(b" write", rights, 1);
     right(b" user", rights, 2);
     right(b" fetch", rights, 4);
+    text(b"\n");
+}
+
+// Prints the memory type index of an entry at a level.
+fn kind(entry: u64, level: u64) {
+    text(b"entry ");
+    hex(entry);
+    text(b" at level ");
+    decimal(level);
+    text(b": memory type ");
+    decimal(memory_type(entry, level) as u64);
     text(b"\n");
 }
 
@@ -143,6 +155,19 @@ fn bits() {
     marked(b" written: ", 0x6065, true);
 }
 
+// "PWT (bit 3), PCD (bit 4) and PAT (bit 7 at level 1, bit 12 of a large page)"
+fn kinds() {
+    kind(0x500f, 1);
+    kind(0x5017, 1);
+    kind(0x5087, 1);
+    kind(0x509f, 1);
+    kind(0x80_0087, 2);
+    kind(0x80_1087, 2);
+    kind(0x80_1097, 2);
+    kind(0x8000_108f, 3);
+    kind(0x501f, 2);
+}
+
 // "it is inside when its address plus 8 is at most the memory's length"
 fn reads() {
     read(0, 0);
@@ -159,5 +184,6 @@ pub(crate) fn all() {
     plain();
     reserved();
     bits();
+    kinds();
     reads();
 }

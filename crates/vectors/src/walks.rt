@@ -82,7 +82,7 @@ fn changes(memory: &[u8]) {
     changed(memory, 0x4040, 0x100_0000_8007);
 }
 
-// Prints the four numbers of an answer.
+// Prints the five numbers of an answer.
 fn told(told: Numbers) {
     text(b": answer ");
     decimal(told.answer);
@@ -92,6 +92,8 @@ fn told(told: Numbers) {
     decimal(told.detail);
     text(b", reads ");
     decimal(told.reads);
+    text(b", memory type ");
+    decimal(told.memoryType);
 }
 
 // Prints words and a number that is none of document 01's.

@@ -57,7 +57,7 @@ module _ (s : Settings) (va : VirtAddr) (a : Way) (m : List ℕ) where
   gives : Gives s va a m
   gives = record {
     where-due = λ whole clear allowed. verdict.address s va a m p x (its-end .0) (its-end .1) (its-end .2) stop (last-read p) (told-with none allowed) whole clear;
-    only-there = λ at size n done. verdict.only s va a m p x o stop refl told at size n done;
+    only-there = λ t done. verdict.only s va a m p x o stop refl told t done;
   }
 
   -- a fault at an entry, where the code is another's
@@ -82,9 +82,9 @@ module _ (s : Settings) (va : VirtAddr) (a : Way) (m : List ℕ) where
 
   marks : Marks s va a m
   marks = record {
-    on-success = λ at size n done i k.
-        let end : (e : Entry) × (base : ℕ) × (x ≡ page e base) = verdict.page-end s va a m p x o told at size n done in
-        ap (λ (z : List ℕ). bit (getD z i 0) k) (verdict.marked s va a m p (ended (needed s a) p x) at size n done)
+    on-success = λ t done i k.
+        let end : (e : Entry) × (base : ℕ) × (x ≡ page e base) = verdict.page-end s va a m p x o told t done in
+        ap (λ (z : List ℕ). bit (getD z i 0) k) (verdict.marked s va a m p (ended (needed s a) p x) t done)
         ∙ marks-bit s m (writes a) i k 4 p ok (end .0) (end .1) (end .2)
         ∙ ap (λ (b : Bool). bit (getD m i 0) k || b) (due-access (a .access) (entries p) i k);
     on-refusal = λ never. verdict.unmarked s va a m p (ended (needed s a) p x) never;
@@ -110,7 +110,7 @@ module _ (s : Settings) (va : VirtAddr) (a : Way) (m : List ℕ) where
 
   counts : Counts s va a m
   counts = record {
-    of-address = λ at size n done. within n (counted (Answer.Done at size n) done) (verdict.only s va a m p x o stop refl told at size n done .0);
+    of-address = λ t done. within (t .reads) (counted (Answer.Done t) done) (verdict.only s va a m p x o stop refl told t done .0);
     of-fault = λ code l n fault. within n (counted (Answer.Fault code l n) fault) (verdict.fault-inside s va a m p x o told code l n fault);
     of-outside = λ at l n out. fewer n (counted (Answer.Outside at l n) out) (verdict.outside-only s va a m p x o told at l n out);
   }

@@ -31,6 +31,7 @@ module _ (s : Settings) (m : List ℕ) where
       (1 ≤ l) × (e .level ≡ l) × (inside m (e .address) ≡ true) × (bit (e .value) 0 ≡ true) × (say.reserved (s .width) (nxe s) (e .level) (e .value) ≡ true)
   SoundEnd l (page e base) =
       (1 ≤ l) × (e .level ≡ l) × (inside m (e .address) ≡ true) × (stops s e ≡ false) × (base ≡ pageBase (e .level) (e .value) .0)
+      × (isPage (e .level) (e .value) ≡ true)
 
   -- the entries fall by a level each, and only the last one stops
   abbrev pub Sound : ℕ → Path → Type 0
@@ -50,7 +51,7 @@ module _ (s : Settings) (m : List ℕ) where
     one-level false present broken whole i p r w f = (omega arith, refl, i)
     one-level true false broken whole i p r w f = (omega arith, refl, i, p)
     one-level true true true whole i p r w f = (omega arith, refl, i, p, r)
-    one-level true true false true i p r w f = (omega arith, refl, i, rw (p, r) refl, refl)
+    one-level true true false true i p r w f = (omega arith, refl, i, rw (p, r) refl, refl, w)
     one-level true true false false i p r w f = (l, refl, refl, i, rw (p, r) refl, f _ refl)
 
   -- every path from a level of at least 1

@@ -1,11 +1,14 @@
 -- What is answered at each end of a path, and what follows from each answer.
 use Prim.Native.Nat.{ℕ, _+_, _-_, _/_, _^_, _≤_, _<_}
 use native.Mathlib.Nat.{mod-lt, lt-of-lt-of-le, sub-add-cancel}
+use native.Mathlib.Decide.{ℕ-discrete}
 use native.Mathlib.Omega.{arith}
 use mathlib.Core.Path.{_≡_, refl, ap, ap₂, sym, _∙_, subst}
 use mathlib.Core.Bool.{Bool, true, false, cond, false≢true}
 use mathlib.Core.List.{List}
 use mathlib.Core.Option.{Option, some, none}
+use borrow.Author.Tests.{lt-leb, ne-eqb}
+use lib.Dec.{eqb, leb}
 use lib.ListN.{length}
 use lib.Pow.{pow-pos, pow-mono, shl-lt}
 use Rattle.word.specs.Bits.{bit}
@@ -14,15 +17,17 @@ use Rattle.address.specs.declared.PhysAddr.{PhysAddr}
 use Rattle.address.specs.declared.VirtAddr.{VirtAddr}
 use Rattle.address.specs.Address.{offset, pageBits}
 use Rattle.address.proofs.Laws.{plus-plain}
-use Rattle.entry.specs.Says.{pageBase}
+use Rattle.entry.specs.Memory.{memoryType}
+use Rattle.entry.specs.Says.{isPage, pageBase}
 use Rattle.walk.specs.declared.Way.{Way}
+use Rattle.walk.specs.declared.Translation.{Translation}
 use Rattle.walk.specs.declared.Answer.{Answer}
 use Rattle.walk.specs.declared.Answer.the-variants as Answer
 use Rattle.walk.specs.declared.Cause.the-variants.{Rights}
 use Rattle.walk.specs.declared.Walked.{Walked}
 use Rattle.walk.specs.declared.Walked.the-variants.{Mapped, Refused, Outside}
 use Rattle.walk.specs.Access.{needed, needsFetch, writes}
-use Rattle.walk.specs.Demand2.{first, last, stops, lacks, allInside}
+use Rattle.walk.specs.Demand2.{first, last, stops, lacks, allInside, typeOf, given}
 use Rattle.walk.specs.Path.{Path, End, Entry, outside, missing, reserved, page, entries, endOf, reads, rights, marks}
 use Rattle.walk.specs.Translate.{answered, codeOf}
 use Rattle.walk.specs.Walk.{ended, after}
@@ -46,17 +51,33 @@ sum-small va l v low =
     let top : offset va l < 2 ^ 52 = lt-of-lt-of-le (offset-small va l) (pow-mono {i = pageBits l} {j = 52} (omega arith)) in
     omega (arith, base-small l v low)
 
+-- the memory type of an entry that maps a page, in demand 2's words
+type-of : (e : Entry) → 1 ≤ e .level → isPage (e .level) (e .value) ≡ true → memoryType (e .level) (e .value) ≡ typeOf e
+type-of e low is = rw (is, at-one)
+  where
+    at-one : leb (e .level) 1 ≡ eqb (e .level) 1
+    at-one = go (ℕ-discrete (e .level) 1)
+      where
+        go : Dec (e .level ≡ 1) → leb (e .level) 1 ≡ eqb (e .level) 1
+        go (yes same) = rw same
+        go (no other) = lt-leb (e .level) 1 (omega arith) ∙ sym (ne-eqb (e .level) 1 other)
+
 module _ (s : Settings) (va : VirtAddr) (a : Way) (m : List ℕ) (p : Path) where
   -- the answer along the path
   abbrev pub reply : Answer
   reply = answered s va a (ended (needed s a) p (endOf p))
+
+  -- what a page at a base gives
+  abbrev found : Entry → ℕ → Translation
+  found e base =
+      record { address = record { 0 = base + offset va (e .level) }; size = e .level; memoryType = memoryType (e .level) (e .value); reads = length (entries p) }
 
   -- what is answered at an end, where the first entry that lacks a right is known
   abbrev pub verdict : End → Option Entry → Answer
   verdict (outside l at) o = Answer.Outside (record { 0 = at }) l (length (entries p))
   verdict (missing e) o = Answer.Fault (codeOf false (writes a) (a .user) false (needsFetch s a)) (e .level) (length (entries p))
   verdict (reserved e) o = Answer.Fault (codeOf true (writes a) (a .user) true (needsFetch s a)) (e .level) (length (entries p))
-  verdict (page e base) none = Answer.Done (record { 0 = base + offset va (e .level) }) (e .level) (length (entries p))
+  verdict (page e base) none = Answer.Done (found e base)
   verdict (page e base) (some f) = Answer.Fault (codeOf true (writes a) (a .user) false (needsFetch s a)) (f .level) (length (entries p))
 
   -- the answer at a page
@@ -66,7 +87,8 @@ module _ (s : Settings) (va : VirtAddr) (a : Way) (m : List ℕ) (p : Path) wher
       (Refused (Rights (levelOf o)) (reads p)))
       ≡ verdict (page e base) o
   at-page e base fits none =
-      ap (λ (x : PhysAddr). Answer.Done x (e .level) (reads p)) (plus-plain (record { 0 = base }) (offset va (e .level)) fits)
+      ap (λ (x : PhysAddr). Answer.Done (record { address = x; size = e .level; memoryType = memoryType (e .level) (e .value); reads = reads p }))
+      (plus-plain (record { 0 = base }) (offset va (e .level)) fits)
   at-page e base fits (some f) = refl
 
   pub at-ending : (k : ℕ) (x : End) → k ≤ 4 → SoundEnd s m k x → answered s va a (ended (needed s a) p x) ≡ verdict x (first (lacks s a) (entries p))
@@ -90,7 +112,7 @@ module _ (s : Settings) (va : VirtAddr) (a : Way) (m : List ℕ) (p : Path) wher
       × (last (entries p) ≡ some e)
       × (pageBase (e .level) (e .value) .0 < 2 ^ 52)
       × (offset va (e .level) < 2 ^ pageBits (e .level))
-      × (reply ≡ Answer.Done (record { 0 = pageBase (e .level) (e .value) .0 + offset va (e .level) }) (e .level) (length (entries p)))
+      × (reply ≡ Answer.Done (given e va (length (entries p))))
 
   -- two different answers
   apart {ℓ} : {X : Type ℓ} → _≡_ {A = ℕ} 0 1 → X
@@ -108,18 +130,20 @@ module _ (s : Settings) (va : VirtAddr) (a : Way) (m : List ℕ) (p : Path) wher
     end refl,
     base-small (e .level) (e .value) (omega (arith, h .1)),
     offset-small va (e .level),
-    told ∙ ap (λ (b : ℕ). Answer.Done (record { 0 = b + offset va (e .level) }) (e .level) (length (entries p))) (h .4),
+    told
+        ∙ ap₂ (λ (b n : ℕ). Answer.Done (record { address = record { 0 = b + offset va (e .level) }; size = e .level; memoryType = n; reads = length (entries p) }))
+        (h .4) (type-of e (omega (arith, h .1)) (h .5)),
   )
 
   -- an address is given only there
   pub only : (x : End) (o : Option Entry) → first (stops s) (entries p) ≡ stopping s m x → first (lacks s a) (entries p) ≡ o
-      → reply ≡ verdict x o → (at : PhysAddr) (size n : ℕ) → reply ≡ Answer.Done at size n
+      → reply ≡ verdict x o → (t : Translation) → reply ≡ Answer.Done t
       → (allInside x ≡ true) × (first (stops s) (entries p) ≡ none) × (first (lacks s a) (entries p) ≡ none)
-  only (outside l b) o stop lack told at size n done = apart (cc)
-  only (missing e) o stop lack told at size n done = apart (cc)
-  only (reserved e) o stop lack told at size n done = apart (cc)
-  only (page e base) none stop lack told at size n done = (refl, stop, lack)
-  only (page e base) (some f) stop lack told at size n done = apart (cc)
+  only (outside l b) o stop lack told t done = apart (cc)
+  only (missing e) o stop lack told t done = apart (cc)
+  only (reserved e) o stop lack told t done = apart (cc)
+  only (page e base) none stop lack told t done = (refl, stop, lack)
+  only (page e base) (some f) stop lack told t done = apart (cc)
 
   -- the first entry that stops, where P is clear
   pub missing-first : (x : End) (o : Option Entry) (k : ℕ) → SoundEnd s m k x → first (stops s) (entries p) ≡ stopping s m x
@@ -161,15 +185,15 @@ module _ (s : Settings) (va : VirtAddr) (a : Way) (m : List ℕ) (p : Path) wher
   lacking-first (page f base) stop e told whole clear = told
 
   -- memory after an answer
-  pub marked : (w : Walked) (at : PhysAddr) (size n : ℕ) → answered s va a w ≡ Answer.Done at size n → after (writes a) p m w ≡ marks (writes a) p m
+  pub marked : (w : Walked) (t : Translation) → answered s va a w ≡ Answer.Done t → after (writes a) p m w ≡ marks (writes a) p m
   unfolding after
-  marked (Mapped f) at size n done = refl
-  marked (Refused cause r) at size n done = apart (cc)
-  marked (Outside b l r) at size n done = apart (cc)
+  marked (Mapped f) t done = refl
+  marked (Refused cause r) t done = apart (cc)
+  marked (Outside b l r) t done = apart (cc)
 
-  pub unmarked : (w : Walked) → ((at : PhysAddr) (size n : ℕ) → answered s va a w ≡ Answer.Done at size n → ⊥) → after (writes a) p m w ≡ m
+  pub unmarked : (w : Walked) → ((t : Translation) → answered s va a w ≡ Answer.Done t → ⊥) → after (writes a) p m w ≡ m
   unfolding after
-  unmarked (Mapped f) never = absurd (never _ _ _ refl)
+  unmarked (Mapped f) never = absurd (never _ refl)
   unmarked (Refused cause r) never = refl
   unmarked (Outside b l r) never = refl
 
@@ -180,16 +204,16 @@ module _ (s : Settings) (va : VirtAddr) (a : Way) (m : List ℕ) (p : Path) wher
   same-length (Outside b l r) = refl
 
   -- a success ends at a page
-  pub page-end : (x : End) (o : Option Entry) → reply ≡ verdict x o → (at : PhysAddr) (size n : ℕ) → reply ≡ Answer.Done at size n
+  pub page-end : (x : End) (o : Option Entry) → reply ≡ verdict x o → (t : Translation) → reply ≡ Answer.Done t
       → (e : Entry) × (base : ℕ) × (x ≡ page e base)
-  page-end (outside l b) o told at size n done = apart (cc)
-  page-end (missing e) o told at size n done = apart (cc)
-  page-end (reserved e) o told at size n done = apart (cc)
-  page-end (page e base) o told at size n done = (e, base, refl)
+  page-end (outside l b) o told t done = apart (cc)
+  page-end (missing e) o told t done = apart (cc)
+  page-end (reserved e) o told t done = apart (cc)
+  page-end (page e base) o told t done = (e, base, refl)
 
   -- the entries read that an answer reports
   abbrev pub count : Answer → ℕ
-  count (Answer.Done at size n) = n
+  count (Answer.Done t) = t .reads
   count Answer.Unknown = 0
   count (Answer.NotServed why) = 0
   count Answer.Form = 0

@@ -17,6 +17,7 @@ use Rattle.entry.specs.Says.{isPage, reserved, tableBase, pageBase}
 use Rattle.walk.specs.declared.Access.{Access}
 use Rattle.walk.specs.declared.Access.the-variants.{Read, Write, Fetch}
 use Rattle.walk.specs.declared.Way.{Way}
+use Rattle.walk.specs.declared.Translation.{Translation}
 use Rattle.walk.specs.declared.Answer.{Answer}
 use Rattle.walk.specs.declared.Answer.the-variants as Answer
 use Rattle.walk.specs.Path.{Entry, End, outside, missing, page, entries, endOf}
@@ -106,6 +107,15 @@ follow s address memory (suc l) base (e ∷ es) x =
 abbrev pub Reads : Settings → VirtAddr → List ℕ → Type 0
 Reads s address memory = follow s address memory levels (s .cr3 / 4096 * 4096) (read s address memory) (end s address memory) ≡ true
 
+-- "4 times PAT plus 2 times PCD plus PWT of the last entry": PAT is bit 7 at level 1, bit 12 of a large page
+abbrev pub typeOf : Entry → ℕ
+typeOf e = cond (bit (e .value) (cond (eqb (e .level) 1) 7 12)) 4 0 + (cond (bit (e .value) 4) 2 0 + cond (bit (e .value) 3) 1 0)
+
+-- what the last entry of a walk gives: its base plus the offset, as plain numbers, its level as the size, its memory type, and the entries read
+abbrev pub given : Entry → VirtAddr → ℕ → Translation
+given e address n =
+    record { address = record { 0 = pageBase (e .level) (e .value) .0 + offset address (e .level) }; size = e .level; memoryType = typeOf e; reads = n }
+
 -- (a) "gives the physical address exactly when Intel's paging chapter gives one"
 pub record Gives (s : Settings) (address : VirtAddr) (a : Way) (memory : List ℕ) : Type 0 where
   -- every entry inside memory, present and without reserved bits, and none lacking a right: the last one's base plus the offset, as plain numbers;
@@ -117,9 +127,9 @@ pub record Gives (s : Settings) (address : VirtAddr) (a : Way) (memory : List �
       × (last (read s address memory) ≡ some e)
       × (pageBase (e .level) (e .value) .0 < 2 ^ 52)
       × (offset address (e .level) < 2 ^ pageBits (e .level))
-      × (answer s address a memory ≡ Answer.Done (record { 0 = pageBase (e .level) (e .value) .0 + offset address (e .level) }) (e .level) (length (read s address memory)))
+      × (answer s address a memory ≡ Answer.Done (given e address (length (read s address memory))))
   -- and an address is given only there; this shuts out one that "always gives one address"
-  pub only-there : (at : PhysAddr) (size n : ℕ) → answer s address a memory ≡ Answer.Done at size n
+  pub only-there : (t : Translation) → answer s address a memory ≡ Answer.Done t
       → (allInside (end s address memory) ≡ true)
       × (first (stops s) (read s address memory) ≡ none)
       × (first (lacks s a) (read s address memory) ≡ none)
@@ -164,18 +174,18 @@ due Fetch es i k = eqb k 5 && someAt i es
 -- (c) "A success sets the Accessed and Dirty bits due and changes no other bit of guest memory."
 pub record Marks (s : Settings) (address : VirtAddr) (a : Way) (memory : List ℕ) : Type 0 where
   -- after a success a bit is set exactly if it was set or is due
-  pub on-success : (at : PhysAddr) (size n : ℕ) → answer s address a memory ≡ Answer.Done at size n → (i k : ℕ)
+  pub on-success : (t : Translation) → answer s address a memory ≡ Answer.Done t → (i k : ℕ)
       → bit (getD (walkMemory s address a memory) i 0) k ≡ (bit (getD memory i 0) k || due (a .access) (read s address memory) i k)
   -- after anything else memory is as before
-  pub on-refusal : ((at : PhysAddr) (size n : ℕ) → answer s address a memory ≡ Answer.Done at size n → ⊥)
+  pub on-refusal : ((t : Translation) → answer s address a memory ≡ Answer.Done t → ⊥)
       → walkMemory s address a memory ≡ memory
   -- the number of bytes is always as before
   pub no-longer : length (walkMemory s address a memory) ≡ length memory
 
 -- (d) "on a walk the number on its path, from 1 to 4, the failing one included. An entry outside memory is not read, so answer 4 reports 0 to 3."
 pub record Counts (s : Settings) (address : VirtAddr) (a : Way) (memory : List ℕ) : Type 0 where
-  pub of-address : (at : PhysAddr) (size n : ℕ) → answer s address a memory ≡ Answer.Done at size n
-      → (n ≡ length (read s address memory)) × (1 ≤ n) × (n ≤ levels)
+  pub of-address : (t : Translation) → answer s address a memory ≡ Answer.Done t
+      → (t .reads ≡ length (read s address memory)) × (1 ≤ t .reads) × (t .reads ≤ levels)
   pub of-fault : (code l n : ℕ) → answer s address a memory ≡ Answer.Fault code l n
       → (n ≡ length (read s address memory)) × (1 ≤ n) × (n ≤ levels)
   pub of-outside : (at : PhysAddr) (l n : ℕ) → answer s address a memory ≡ Answer.Outside at l n

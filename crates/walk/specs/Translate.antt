@@ -8,10 +8,13 @@ use Rattle.settings.specs.declared.Settings.{Settings}
 use Rattle.settings.specs.declared.Service.{Service}
 use Rattle.settings.specs.declared.Service.the-variants.{Served, NotServed}
 use Rattle.settings.specs.Settings.{judged, number, pg}
+use Rattle.address.specs.declared.PhysAddr.{PhysAddr}
 use Rattle.address.specs.declared.VirtAddr.{VirtAddr}
 use Rattle.address.specs.Address.{canonical, offset, plus}
+use Rattle.entry.specs.Memory.{memoryType}
 use Rattle.walk.specs.declared.Way.{Way}
 use Rattle.walk.specs.declared.Numbers.{Numbers}
+use Rattle.walk.specs.declared.Translation.{Translation}
 use Rattle.walk.specs.declared.Cause.{Cause}
 use Rattle.walk.specs.declared.Cause.the-variants.{Missing, Reserved, Rights}
 use Rattle.walk.specs.declared.Walked.{Walked}
@@ -70,10 +73,21 @@ codeOf present write user reserved fetch =
 abbrev pub code : Settings → Way → Cause → ℕ
 code s a cause = codeOf (causePresent cause) (writes a) (a .user) (causeReserved cause) (needsFetch s a)
 
+-- what is given where no page is found: an address, size 0, "with paging off 0" as memory type, no entry read
+abbrev pub unpaged : PhysAddr → Translation
+unpaged at = record { address = at; size = 0; memoryType = 0; reads = 0 }
+
 -- what a walk is answered: 0 with the "physical address of a translation" and its size, 5 "page fault" with "error code" and "level",
 -- 4 "table entry [..] outside memory" with "its address" and "level"
 abbrev pub answered : Settings → VirtAddr → Way → Walked → Answer
-answered s address a (Mapped m) = Answer.Done (plus (m .base) (offset address (m .size))) (m .size) (m .reads)
+answered s address a (Mapped m) =
+    Answer.Done
+    (record {
+      address = plus (m .base) (offset address (m .size));
+      size = m .size;
+      memoryType = memoryType (m .size) (m .last);
+      reads = m .reads;
+    })
 answered s address a (Refused cause n) = Answer.Fault (code s a cause) (causeLevel cause) n
 answered s address a (Outside at l n) = Answer.Outside at l n
 
@@ -82,7 +96,7 @@ abbrev pub fresh : Settings → VirtAddr → List ℕ → Asked → Answer
 fresh s address memory Asked.Unknown = Answer.Unknown
 fresh s address memory (Asked.NotServed why) = Answer.NotServed why
 fresh s address memory Asked.Form = Answer.Form
-fresh s address memory (Asked.Off at) = Answer.Done at 0 0
+fresh s address memory (Asked.Off at) = Answer.Done (unpaged at)
 fresh s address memory (Asked.On a) = answered s address a (walkAnswer s address a memory)
 
 -- memory after a fresh walk, if one is made
@@ -108,13 +122,13 @@ IsTranslation s address access mode memory answer left =
 
 -- a refusal with no entry read: "Numbers added later have value and detail 0 unless a request says otherwise."
 abbrev pub refusal : ℕ → Numbers
-refusal number = record { answer = number; value = 0; detail = 0; reads = 0 }
+refusal number = record { answer = number; value = 0; detail = 0; reads = 0; memoryType = 0 }
 
 -- "Numbers answered": number, value, detail and entries read of each answer
 abbrev pub numbers : Answer → Numbers
-numbers (Answer.Done at size n) = record { answer = 0; value = at .0; detail = size; reads = n }
+numbers (Answer.Done t) = record { answer = 0; value = t .address .0; detail = t .size; reads = t .reads; memoryType = t .memoryType }
 numbers Answer.Unknown = refusal 1
 numbers (Answer.NotServed why) = refusal (number why)
 numbers Answer.Form = refusal 3
-numbers (Answer.Outside at l n) = record { answer = 4; value = at .0; detail = l; reads = n }
-numbers (Answer.Fault c l n) = record { answer = 5; value = c; detail = l; reads = n }
+numbers (Answer.Outside at l n) = record { answer = 4; value = at .0; detail = l; reads = n; memoryType = 0 }
+numbers (Answer.Fault c l n) = record { answer = 5; value = c; detail = l; reads = n; memoryType = 0 }

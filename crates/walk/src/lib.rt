@@ -52,9 +52,17 @@ pub enum Asked {
     On(Way),
 }
 
-// What a call is answered: address and size, or address and level, or code and level, each with the entries read.
+// What a translation gives: the physical address, the page's size and memory type index, and the entries read.
+pub struct Translation {
+    pub address: PhysAddr,
+    pub size: u64,
+    pub memoryType: u64,
+    pub reads: u64,
+}
+
+// What a call is answered: a translation, or address and level, or code and level, each with the entries read.
 pub enum Answer {
-    Done(PhysAddr, u64, u64),
+    Done(Translation),
     Unknown,
     NotServed(Unserved),
     Form,
@@ -62,10 +70,11 @@ pub enum Answer {
     Fault(u64, u64, u64),
 }
 
-// The four numbers of an answer.
+// The five numbers of an answer.
 pub struct Numbers {
     pub answer: u64,
     pub value: u64,
     pub detail: u64,
     pub reads: u64,
+    pub memoryType: u64,
 }

@@ -3,6 +3,7 @@ use crate::Answer;
 use crate::Asked;
 use crate::Cause;
 use crate::Numbers;
+use crate::Translation;
 use crate::Walked;
 use crate::Way;
 use crate::walk::needs_fetch;
@@ -10,6 +11,7 @@ use crate::walk::walk;
 use crate::ways::way_of;
 use address::PhysAddr;
 use address::VirtAddr;
+use entry::memory::memory_type;
 use settings::Service;
 use settings::Settings;
 use settings::number;
@@ -94,6 +96,18 @@ pub fn code(settings: Settings, way: Way, cause: Cause) -> u64
     }
 }
 
+// What is given where no page is found: an address, size and memory type 0, no entry read.
+pub fn unpaged(address: PhysAddr) -> Translation
+    ensures { λ r. ⌜ r ≡ spec.unpaged address ⌝ }
+{
+    Translation {
+        address,
+        size: 0,
+        memoryType: 0,
+        reads: 0,
+    }
+}
+
 // What a walk is answered.
 pub fn answer(settings: Settings, address: VirtAddr, way: Way, walked: Walked) -> Answer
     ensures { λ r. ⌜ r ≡ spec.answered settings address way walked ⌝ }
@@ -102,7 +116,13 @@ pub fn answer(settings: Settings, address: VirtAddr, way: Way, walked: Walked) -
         Walked::Mapped(m) => {
             let base = m.base;
             let size = m.size as u64;
-            Answer::Done(base.plus(address.offset(size)), size, m.reads)
+            let memory_type = memory_type(m.last, size);
+            Answer::Done(Translation {
+                address: base.plus(address.offset(size)),
+                size,
+                memoryType: memory_type as u64,
+                reads: m.reads,
+            })
         }
         Walked::Refused(cause, reads) => {
             let code = code(settings, way, cause);
@@ -138,7 +158,7 @@ pub fn translate(
         Asked::Unknown => Answer::Unknown,
         Asked::NotServed(why) => Answer::NotServed(why),
         Asked::Form => Answer::Form,
-        Asked::Off(at) => Answer::Done(at, 0, 0),
+        Asked::Off(at) => Answer::Done(unpaged(at)),
         Asked::On(way) => {
             let walked = walk(memory, settings, address, way);
             answer(settings, address, way, walked)
@@ -146,16 +166,17 @@ pub fn translate(
     }
 }
 
-// The four numbers of an answer.
+// The five numbers of an answer.
 pub fn numbers(answer: Answer) -> Numbers
     ensures { λ r. ⌜ r ≡ spec.numbers answer ⌝ }
 {
     match answer {
-        Answer::Done(at, size, reads) => Numbers {
+        Answer::Done(found) => Numbers {
             answer: 0,
-            value: at.0,
-            detail: size,
-            reads,
+            value: found.address.0,
+            detail: found.size,
+            reads: found.reads,
+            memoryType: found.memoryType,
         },
         Answer::Unknown => refusal(1),
         Answer::NotServed(why) => refusal(number(why)),
@@ -165,12 +186,14 @@ pub fn numbers(answer: Answer) -> Numbers
             value: at.0,
             detail: level,
             reads,
+            memoryType: 0,
         },
         Answer::Fault(code, level, reads) => Numbers {
             answer: 5,
             value: code,
             detail: level,
             reads,
+            memoryType: 0,
         },
     }
 }
@@ -184,5 +207,6 @@ pub fn refusal(answer: u64) -> Numbers
         value: 0,
         detail: 0,
         reads: 0,
+        memoryType: 0,
     }
 }

@@ -8,7 +8,7 @@ fn print_next(number: u64) {
     io::print_decimal(STDOUT_FILENO, number);
 }
 
-// Prints the record's number and the answer's four.
+// Prints the record's number and the answer's five.
 pub(crate) fn print_answer(count: u64, numbers: Numbers) {
     io::print_decimal(STDOUT_FILENO, count);
     print_next(numbers.answer);
@@ -16,6 +16,7 @@ pub(crate) fn print_answer(count: u64, numbers: Numbers) {
     io::print_hex(STDOUT_FILENO, numbers.value, 16);
     print_next(numbers.detail);
     print_next(numbers.reads);
+    print_next(numbers.memoryType);
 }
 
 // Prints a byte that changed: its offset and what it is now.

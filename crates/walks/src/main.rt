@@ -9,6 +9,7 @@ use crate::record::registers;
 use address::VirtAddr;
 use libc::STDIN_FILENO;
 use libc::STDOUT_FILENO;
+use walk::Numbers;
 use walk::translate::numbers;
 use walk::translate::translate;
 
@@ -18,16 +19,20 @@ mod record;
 // The most bytes of memory that a record may ask for.
 const MOST: usize = 32768;
 
-// Walks as a record asks, and prints its line: memory is laid out twice, so that one is left as it was.
-fn walk_record(count: u64, record: &[u8; SIZE], before: &mut [u8], memory: &mut [u8]) {
-    lay_out(before, record);
+// Walks as a record asks, in memory laid out as it says.
+fn ask(record: &[u8; SIZE], memory: &mut [u8]) -> Numbers {
     lay_out(memory, record);
     let settings = registers(record);
     let address = VirtAddr(number(record, 40));
     let access = number(record, 48);
     let mode = number(record, 56);
-    let answer = translate(memory, settings, address, access, mode);
-    print_answer(count, numbers(answer));
+    numbers(translate(memory, settings, address, access, mode))
+}
+
+// Walks as a record asks, and prints its line: memory is laid out twice, so that one is left as it was.
+fn walk_record(count: u64, record: &[u8; SIZE], before: &mut [u8], memory: &mut [u8]) {
+    lay_out(before, record);
+    print_answer(count, ask(record, memory));
     print_changes(before, memory);
     io::write_all(STDOUT_FILENO, b"\n");
 }

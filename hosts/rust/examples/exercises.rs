@@ -85,12 +85,13 @@ const fn exercise(
     }
 }
 
-/// A translation to an address in a page of a size.
+/// A translation to an address in a page of a size, with memory type index 0.
 const fn done(address: u64, size: u64, reads: u64) -> Answer {
     Answer::Done {
         address,
         size,
         reads,
+        memory_type: 0,
     }
 }
 
@@ -151,7 +152,12 @@ const EXERCISES: [Exercise; 27] = [
     exercise(
         PAGING,
         (0xa0_0010, READ, USER),
-        done(0x80_0010, 2, 3),
+        Answer::Done {
+            address: 0x80_0010,
+            size: 2,
+            reads: 3,
+            memory_type: 4,
+        },
         &MEDIUM_PAT,
     ),
     exercise(PAGING, (0x40_6000, WRITE, USER), fault(7, 1, 4), &[]),

@@ -1,6 +1,6 @@
 //! The first exercise on a machine that remembers: press, and the driver counts in its page; move the
 //! page, press again, and the old page still counts; drop the page, press again, and the new one does.
-//! Then one drop of a large page. Prints each step and checks it. Exits with 1 where anything differs.
+//! Then one drop of a large page, and a page that is uncached. Prints each step and checks it. Exits with 1 where anything differs.
 
 use std::process::ExitCode;
 
@@ -61,6 +61,7 @@ impl Emulator {
             address: (page + COUNTER as usize % PAGE) as u64,
             size: 1,
             reads,
+            memory_type: 0,
         };
         let (old, new) = (self.count(OLD_PAGE), self.count(NEW_PAGE));
         println!("press: {answer}; counted in the old page {old}, in the new {new}");
@@ -89,17 +90,36 @@ impl Emulator {
             .any(|place| place.flags & Place::MARKED != 0 && place.tag == tag)
     }
 
+    /// Reads at an address.
+    fn read(&mut self, address: u64) -> Answer {
+        self.step(Card::translate(Question {
+            address,
+            access: READ,
+            mode: USER,
+        }))
+    }
+
+    /// Gives whether the display's page is told as uncached, by the walk and from what is remembered.
+    fn display(&mut self) -> bool {
+        self.step(Card::store(0x4020, 0x7017));
+        let known = |reads| Answer::Done {
+            address: 0x7000,
+            size: 1,
+            reads,
+            memory_type: 2,
+        };
+        let answers = [self.read(0x40_4000), self.read(0x40_4000)];
+        println!("the display's page, PCD alone: {}", answers[0]);
+        right(answers == [known(4), known(0)])
+    }
+
     /// Gives whether one drop takes all pieces of a 2 MiB page and leaves the next page.
     fn large_page(&mut self) -> bool {
         self.step(Card::store(0x3018, 0x80_0087));
         self.step(Card::store(0x3020, 0xa0_0087));
         let asked = [0x60_0000, 0x7f_f000, 0x80_0000];
         for address in asked {
-            self.step(Card::translate(Question {
-                address,
-                access: READ,
-                mode: USER,
-            }));
+            self.read(address);
         }
         let before = asked.map(|address| self.holds(address));
         self.step(Card::drop_page(0x65_1234));
@@ -147,6 +167,7 @@ fn main() -> ExitCode {
     all &= emulator.pressed(NEW_PAGE, 4, (2, 2));
     all &= emulator.remembered(Some(6));
     all &= emulator.large_page();
+    all &= emulator.display();
     if all {
         ExitCode::SUCCESS
     } else {

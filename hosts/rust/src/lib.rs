@@ -52,8 +52,14 @@ pub struct Question {
 #[derive(Clone, Copy, Debug, PartialEq, Eq)]
 pub enum Answer {
     /// The physical address; size is 1, 2 or 3 for a page of 4 KiB, 2 MiB or 1 GiB, and 0 with paging off.
+    /// The memory type index is 4 times PAT plus 2 times PCD plus PWT of the last entry, and 0 with paging off.
     /// All are 0 where no translation was asked.
-    Done { address: u64, size: u64, reads: u64 },
+    Done {
+        address: u64,
+        size: u64,
+        reads: u64,
+        memory_type: u64,
+    },
     /// The table entry at this physical address lies outside memory; of a card's store, at level 0, the store.
     Outside { entry: u64, level: u64, reads: u64 },
     /// A page fault with its error code and the level of the entry at fault.

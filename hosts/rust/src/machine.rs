@@ -2,7 +2,7 @@
 
 use aalbrett_raw as raw;
 
-use crate::answer::answered;
+use crate::answer::{answered, BUFFER};
 use crate::{Answer, Settings};
 
 /// A machine: its record may be read and written between steps, and hold anything.
@@ -17,12 +17,12 @@ impl Machine {
     pub fn start(settings: Settings) -> (Answer, Machine) {
         let mut record = raw::Machine::default();
         let number = raw::start(&mut record, &settings);
-        (answered(number, &[0; 32]), Machine { record })
+        (answered(number, &[0; BUFFER]), Machine { record })
     }
 
     /// One card's step on the machine and guest memory, whose first byte is physical address 0.
     pub fn step(&mut self, memory: &mut [u8], card: &[u8]) -> Answer {
-        let mut buffer = [0; 32];
+        let mut buffer = [0; BUFFER];
         let number = raw::step(&mut self.record, memory, card, &mut buffer);
         answered(number, &buffer)
     }
@@ -48,6 +48,7 @@ mod tests {
         address: 0,
         size: 0,
         reads: 0,
+        memory_type: 0,
     };
 
     /// The archive reads and writes each field where the layout has it.
@@ -61,7 +62,7 @@ mod tests {
             (0x1000, 0x2007),
             (0x2000, 0x3007),
             (0x3010, 0x4007),
-            (0x4018, 0x8000_0000_0BCD_E105),
+            (0x4018, 0x8000_0000_0BCD_E18D),
         ];
         for (at, entry) in entries {
             assert_eq!(machine.step(&mut memory, &Card::store(at, entry).0), DONE);
@@ -76,6 +77,7 @@ mod tests {
             address: 0xBCD_EABC,
             size: 1,
             reads,
+            memory_type: 5,
         };
         assert_eq!(answer, found(4));
         let place = Place {
@@ -83,6 +85,7 @@ mod tests {
             frame: 0xBCDE,
             size: 1,
             flags: Place::USER | Place::GLOBAL | Place::MARKED,
+            memory_type: 5,
         };
         assert_eq!(machine.record.sets[3][0], place);
         let again = machine.step(&mut memory, &Card::translate(read).0);

@@ -31,10 +31,11 @@ impl Display for Answer {
                 address,
                 size,
                 reads,
+                memory_type,
             } => {
                 write!(
                     text,
-                    "physical {address:#x}, size {size}, entries read: {reads}"
+                    "physical {address:#x}, size {size}, memory type index {memory_type}, entries read: {reads}"
                 )
             }
             Answer::Outside {

@@ -2,7 +2,7 @@
 
 use aalbrett_raw as raw;
 
-use crate::answer::answered;
+use crate::answer::{answered, BUFFER};
 use crate::{Answer, Question, Settings};
 
 /// One uncached walk of guest memory, whose first byte is physical address 0.
@@ -15,7 +15,7 @@ pub fn walk(settings: Settings, question: Question, memory: &mut [u8]) -> Answer
         access,
         mode,
     } = question;
-    let mut buffer = [0; 32];
+    let mut buffer = [0; BUFFER];
     let number = raw::walk(&settings, [address, access, mode], memory, &mut buffer);
     answered(number, &buffer)
 }

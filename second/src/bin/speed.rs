@@ -4,6 +4,7 @@ use std::hint::black_box;
 use std::time::Instant;
 
 use aalbrett_raw::{self as raw, aalbrett_walk, timing_translations};
+use second::answer::Answer;
 use second::card::{Card, CARD};
 use second::case::store;
 use second::fast::fast_walk;
@@ -116,7 +117,7 @@ fn questions(random: &mut Random, kind: &Kind) -> Vec<Question> {
 /// Asserts that the walk gives the kind's answer to each question.
 fn check(walk: HostWalk, kind: &Kind, questions: &[Question], memory: &mut [u8]) {
     for question in questions {
-        let mut answer = [0; 32];
+        let mut answer = [0; Answer::BYTES];
         let number = call(walk, &SETTINGS, question, memory, &mut answer);
         let found = (number, u64::from(answer[16]));
         assert_eq!(found, kind.expected, "{} {question:x?}", kind.name);
@@ -125,7 +126,7 @@ fn check(walk: HostWalk, kind: &Kind, questions: &[Question], memory: &mut [u8])
 
 /// The nanoseconds of one call, on the mean of all questions.
 fn time(walk: HostWalk, questions: &[Question], memory: &mut [u8]) -> f64 {
-    let mut answer = [0; 32];
+    let mut answer = [0; Answer::BYTES];
     let start = Instant::now();
     for _ in 0..REPEATS {
         for question in questions {
@@ -235,7 +236,7 @@ fn steps(name: &str, asked: (u64, u64), addresses: &[u8]) {
     let mut record = raw::Machine::default();
     raw::start(&mut record, &raw_settings(&SETTINGS));
     let mut plain = FastMachine::start(SETTINGS);
-    let (mut ours, mut theirs) = ([0; 32], [0; 32]);
+    let (mut ours, mut theirs) = ([0; Answer::BYTES], [0; Answer::BYTES]);
     for card in &cards {
         let number = raw::step(&mut record, &mut memory, card, &mut ours);
         assert_eq!(number, plain.step(&mut memory, card, &mut theirs), "{name}");

@@ -132,7 +132,7 @@ module _ {M : Type 1} (𝓤 : URA M) (H : Heap 𝓤) (A : Atoms 𝓤) (W : Given
   abbrev to-write : Numbers → Write 𝓤 H A at-mem run .Ghost
   to-write r = (((κ₃, tt), (q₃, tt), tt, (n, (r, tt)), (part n ∷ [], (LL.vals N.the-type N′.the-laws r, tt))), tt)
 
-  goes-write : (r : Numbers) → Is N.the-row r (LL.vals N.the-type N′.the-laws r) → 32 ≤ length (n .now) → ent 𝓤 (⋆ 𝓤 H A ((‵ (flft κ₃ q₃) ⊛ ‵ ftrue) ∷ ‵ Answer ∷ [])) (Write 𝓤 H A at-mem run .pre (to-write r))
+  goes-write : (r : Numbers) → Is N.the-row r (LL.vals N.the-type N′.the-laws r) → 40 ≤ length (n .now) → ent 𝓤 (⋆ 𝓤 H A ((‵ (flft κ₃ q₃) ⊛ ‵ ftrue) ∷ ‵ Answer ∷ [])) (Write 𝓤 H A at-mem run .pre (to-write r))
   goes-write r is long =
       qed W ((‵ (flft κ₃ q₃) ⊛ ‵ ftrue) ∷ ‵ Answer ∷ []) ∵ says ! long $ frame ! $
       nothing ! $ owned ! N.the-row (Is N.the-row) (LL.makes N.the-type N′.the-plain 𝓤 H A) r _ is $ fjoin ! $ move ! (1 ∷ 0 ∷ []) $ fjoin ! $ done !
@@ -221,7 +221,7 @@ module _ {M : Type 1} (𝓤 : URA M) (H : Heap 𝓤) (A : Atoms 𝓤) (W : Given
         -- its numbers are written to the buffer
         assigns ! (addr ! (from ! (fld ! refl (hop ! (look-in ! 25 (sub ! 0 refl (whole !))) (stop !))))) (from ! (stop !)) (init ! 9 refl (tt, tt)) $
         assigns ! (agg ! (and-then ! (load ! (from ! (stop !)) (look ! 9 refl)) (and-then ! (load ! (from ! (fld ! refl (stop !))) (look-in ! 25 (sub ! 1 refl (whole !)))) (no-more !)))) (from ! (stop !)) (init ! 7 refl (tt, (tt, (record { fits = room″ .0 }, tt)))) $
-        move ! (6 ∷ 5 ∷ []) $ use2 W (raw (Write 𝓤 H A at-mem run .pre (to-write r))) (goes-write r (numbers-is r w is) (nltb→le (length (n .now)) 32 is-long)) $
+        move ! (6 ∷ 5 ∷ []) $ use2 W (raw (Write 𝓤 H A at-mem run .pre (to-write r))) (goes-write r (numbers-is r w is) (nltb→le (length (n .now)) 40 is-long)) $
         calls-at ! fm (Write 𝓤 H A at-mem run) known-write (to-write r) (and-then ! (load ! (from ! (stop !)) (look ! 6 refl)) (and-then ! (load ! (from ! (stop !)) (look ! 22 refl)) (no-more !))) (λ w₁.
         use1 W (later (some (λ (x : Unit {0}). ((‵ (flft κ₃ q₃) ⊛ ‵ ftrue) ⊛ ‵ (unit .own x (w₁ ∷ []))) ⊛ raw (ensured 𝓤 H A writes.ended (writes.clauses 𝓤 H A at-mem run) (κ₃, tt) (n, (r, tt)) tt x)))) (id⊢ 𝓤 _) $ await ! tt $ pick ! (λ x.
         split ! $ move ! (1 ∷ []) $ use1 W (some (λ (us : List ℕ × (Unit {0} × Unit {0})). ‵ (lasts writes.ended (κ₃, tt) (n, (r, tt)) us) ⊛ raw (fact 𝓤 (us .0 ≡ written r (n .now))))) (id⊢ 𝓤 _) $ pick ! (λ us.

@@ -7,7 +7,7 @@ use Rattle.aalbrett.proofs.aalbrett_walk.Tie as tie
 
 returns : tie.Need-returns
 returns c =
-    let h = lt-ltb (length (c .before .before .before .args .answer .now)) 32 (c .if1 .taken) in
+    let h = lt-ltb (length (c .before .before .before .args .answer .now)) 40 (c .if1 .taken) in
     (simp h, simp h, simp h)
 
 translate-requires : tie.Need-translate-requires
@@ -27,7 +27,7 @@ same-length-2 c = search needs
 
 returns-2 : tie.Need-returns-2
 returns-2 c =
-    let h = le-ltb (length (c .before .before .before .before .before .before .before .before .before .before .before .before .args .answer .now)) 32 (c .before .before .before .before .before .before .before .before .before .if1 .left) in (
+    let h = le-ltb (length (c .before .before .before .before .before .before .before .before .before .before .before .before .args .answer .now)) 40 (c .before .before .before .before .before .before .before .before .before .if1 .left) in (
       simp h (rw (c .before .before .before .before .numbers .ensures, c .before .before .before .before .before .before .before .translate .ensures .0)),
       simp h (c .before .before .before .before .before .before .before .translate .ensures .1),
       simp h (rw (c .before .before .write .ensures, c .before .before .before .before .numbers .ensures, c .before .before .before .before .before .before .before .translate .ensures .0)),

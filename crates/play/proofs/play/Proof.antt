@@ -8,7 +8,7 @@ use Rattle.play.proofs.play.Statement.{statement}
 use Rattle.play.proofs.play.Tie as tie
 
 abbrev Inv-loop : tie.InvT-loop
-Inv-loop memory₀ cards number text₀ count machine₀ used₀ k₀ memory text machine used k = (length text ≡ length text₀) × (used ≤ 105 * k) × (k ≤ count)
+Inv-loop memory₀ cards number text₀ count machine₀ used₀ k₀ memory text machine used k = (length text ≡ length text₀) × (used ≤ 126 * k) × (k ≤ count)
 
 abbrev μ-loop : tie.MeasureT-loop
 μ-loop memory₀ cards number text₀ count machine₀ used₀ k₀ memory text machine used k = count - k

@@ -21,6 +21,7 @@ pub struct Place {
     pub frame: u64,
     pub size: u8,
     pub flags: u8,
+    pub memory_type: u8,
 }
 
 /// The bits of a place's flags: its rights, D, G, and that it is marked; the other two count for nothing.
@@ -54,4 +55,5 @@ const _: () = {
     assert!(offset_of!(Place, frame) == 8);
     assert!(offset_of!(Place, size) == 16);
     assert!(offset_of!(Place, flags) == 17);
+    assert!(offset_of!(Place, memory_type) == 18);
 };

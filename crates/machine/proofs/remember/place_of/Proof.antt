@@ -3,8 +3,8 @@ use borrow.Author.Needs.{needs}
 use Rattle.machine.proofs.remember.place_of.Statement.{statement}
 use Rattle.machine.proofs.remember.place_of.Tie as tie
 
-cast-offset : tie.Need-cast-offset
-cast-offset c = search needs
+cast-level : tie.Need-cast-level
+cast-level c = search needs
 
 offset-requires : tie.Need-offset-requires
 offset-requires c κs = search needs
@@ -42,38 +42,42 @@ flags-requires c κs = search needs
 tag-requires : tie.Need-tag-requires
 tag-requires c κs = search needs
 
+memory-type-requires : tie.Need-memory-type-requires
+memory-type-requires c κs = search needs
+
 flag-requires : tie.Need-flag-requires
 flag-requires c κs = search needs
-
-add-t20 : tie.Need-add-t20
-add-t20 c = search needs
 
 add-t21 : tie.Need-add-t21
 add-t21 c = search needs
 
+add-t22 : tie.Need-add-t22
+add-t22 c = search needs
+
 returns : tie.Need-returns
 returns c =
     rw (
-      c .before .tag .ensures,
-      c .before .before .before .before .before .before .before .before .before .before .frame .ensures,
-      c .before .before .before .before .before .before .before .before .before .before .before .plus .ensures,
-      c .before .before .before .before .before .before .before .before .before .before .before .before .offset .ensures,
+      c .before .before .tag .ensures,
+      c .before .before .before .before .before .before .before .before .before .before .before .frame .ensures,
+      c .before .before .before .before .before .before .before .before .before .before .before .before .plus .ensures,
+      c .before .before .before .before .before .before .before .before .before .before .before .before .before .offset .ensures,
       c .flag .ensures .0,
-      c .before .before .flags .ensures .0,
-      c .before .before .before .before .before .before .bit3 .ensures,
-      c .before .before .before .before .before .bit4 .ensures,
-      c .before .before .before .before .bit5 .ensures,
-      c .before .before .before .before .before .before .before .bit2 .ensures,
-      c .before .before .before .writes .ensures,
-      c .before .before .before .before .before .before .before .before .before .bit .ensures,
-      c .before .before .before .before .before .before .before .before .pge .ensures,
+      c .before .before .before .flags .ensures .0,
+      c .before .before .before .before .before .before .before .bit3 .ensures,
+      c .before .before .before .before .before .before .bit4 .ensures,
+      c .before .before .before .before .before .bit5 .ensures,
+      c .before .before .before .before .before .before .before .before .bit2 .ensures,
+      c .before .before .before .before .writes .ensures,
+      c .before .before .before .before .before .before .before .before .before .before .bit .ensures,
+      c .before .before .before .before .before .before .before .before .before .pge .ensures,
+      c .before .memory-type .ensures .0,
     )
 
 pub place-of-spec : {M : Type 1} → statement M
 place-of-spec =
     tie.close
     (tie.spec
-    cast-offset
+    cast-level
     offset-requires
     plus-requires
     frame-requires
@@ -86,7 +90,8 @@ place-of-spec =
     writes-requires
     flags-requires
     tag-requires
+    memory-type-requires
     flag-requires
-    add-t20
     add-t21
+    add-t22
     returns)

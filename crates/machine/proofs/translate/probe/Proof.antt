@@ -3,6 +3,8 @@ use mathlib.Core.Path.{ap, sym, _∙_}
 use Rattle.machine.specs.declared.Probed.the-variants.{Answered}
 use Rattle.machine.specs.Probe.{probed, probedAsked, probedFound}
 use Rattle.machine.proofs.Probing.{find-law}
+use Rattle.walk.specs.declared.Translation.{Translation}
+use Rattle.walk.specs.declared.Answer.the-variants as Answer
 use borrow.Author.Needs.{needs}
 use Rattle.machine.proofs.translate.probe.Statement.{statement}
 use Rattle.machine.proofs.translate.probe.Tie as tie
@@ -24,6 +26,9 @@ enum-known-at c = search needs
 
 enum-known-a : tie.Need-enum-known-a
 enum-known-a c = search needs
+
+unpaged-requires : tie.Need-unpaged-requires
+unpaged-requires c κs = search needs
 
 wanted-requires : tie.Need-wanted-requires
 wanted-requires c κs = search needs
@@ -67,8 +72,9 @@ returns-3 c =
 returns-4 : tie.Need-returns-4
 unfolding probed
 returns-4 c =
-    let a = c .before .before .before .before .args in
-    sym (ap (probedAsked (a .settings) (a .set) (a .address)) (sym (c .before .before .before .ask .ensures) ∙ c .before .at .given .1))
+    let a = c .before .before .before .before .before .args in
+    ap (λ (t : Translation). Answered (Answer.Done t)) (c .unpaged .ensures)
+    ∙ sym (ap (probedAsked (a .settings) (a .set) (a .address)) (sym (c .before .before .before .before .ask .ensures) ∙ c .before .before .at .given .1))
 
 returns-5 : tie.Need-returns-5
 unfolding probed
@@ -95,6 +101,7 @@ probe-spec =
     enum-known-why
     enum-told-2
     enum-known-at
+    unpaged-requires
     enum-known-a
     wanted-requires
     tag-requires

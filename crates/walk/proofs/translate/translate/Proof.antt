@@ -1,6 +1,7 @@
 -- `translate::translate` meets its contract.
 use mathlib.Core.Path.{ap, sym, _∙_}
 use Rattle.walk.specs.Translate.{fresh, freshMemory, answered, translated, translatedMemory}
+use Rattle.walk.specs.declared.Answer.the-variants as Answer
 use borrow.Author.Needs.{needs}
 use Rattle.walk.proofs.translate.translate.Statement.{statement}
 use Rattle.walk.proofs.translate.translate.Tie as tie
@@ -22,6 +23,9 @@ enum-known-asked-2 c = search needs
 
 enum-known-asked-3 : tie.Need-enum-known-asked-3
 enum-known-asked-3 c = search needs
+
+unpaged-requires : tie.Need-unpaged-requires
+unpaged-requires c κs = search needs
 
 walk-requires : tie.Need-walk-requires
 walk-requires c κs = search needs
@@ -53,9 +57,9 @@ returns-3 c =
 returns-4 : tie.Need-returns-4
 unfolding translated translatedMemory
 returns-4 c =
-    let a = c .before .before .before .before .before .args in
-    let told = sym (c .before .before .before .ask .ensures) ∙ c .before .asked2 .given .1 in
-    (sym (ap (fresh (a .settings) (a .address) (a .memory .now)) told), sym (ap (freshMemory (a .settings) (a .address) (a .memory .now)) told))
+    let a = c .before .before .before .before .before .before .args in
+    let told = sym (c .before .before .before .before .ask .ensures) ∙ c .before .before .asked2 .given .1 in
+    (ap Answer.Done (c .unpaged .ensures) ∙ sym (ap (fresh (a .settings) (a .address) (a .memory .now)) told), sym (ap (freshMemory (a .settings) (a .address) (a .memory .now)) told))
 
 same-length : tie.Need-same-length
 same-length c = search needs
@@ -81,6 +85,7 @@ translate-spec =
     enum-known-asked
     enum-told-2
     enum-known-asked-2
+    unpaged-requires
     enum-known-asked-3
     walk-requires
     answer-requires
