@@ -11,7 +11,8 @@
  * fine as long as no two of them lend the same bytes.
  *
  * aalbrett_walk translates with nothing remembered. An emulator that remembers, as a processor does,
- * owns a struct aalbrett_machine: aalbrett_start starts it, and aalbrett_step makes one call on it.
+ * owns a struct aalbrett_machine: aalbrett_start starts it, aalbrett_step makes one call on it, and
+ * aalbrett_invpcid drops by space number.
  */
 #ifndef AALBRETT_H
 #define AALBRETT_H
@@ -38,8 +39,8 @@ extern "C" {
  *   DONE        translated, or done            the physical address; 0 where  1, 2, 3: a page of 4 KiB, 2 MiB,
  *                                              no translation was asked       1 GiB; 0: paging is off, or no
  *                                                                             translation was asked
- *   UNKNOWN     access, mode or card kind      0                              0
- *               unknown
+ *   UNKNOWN     access, mode, card kind or     0                              0
+ *               INVPCID kind unknown
  *   WIDTH       M not from 32 to 52            0                              0
  *   FORM        address not canonical; with    0                              0
  *               paging off, not below 2^32
@@ -53,12 +54,20 @@ extern "C" {
  *   PAGING      CR0.PG = 1 without CR0.PE,     0                              0
  *               CR4.PAE or EFER.LME
  *   EXTENSION   CR0.PG = 1 and a bit of CR4    0                              0
- *               that is not served: 12, 17
- *               or 20 to 24
+ *               that is not served: 12 or
+ *               20 to 24
+ *   SPACES      CR4 bit 17 with CR0.PG = 0;    0                              0
+ *               or turned on while CR3 bits
+ *               11:0 are not 0, by a start
+ *               or a settings load
+ *   SPACE_NUMBER  INVPCID's space number is    0                              0
+ *               above 4,095, or in kinds
+ *               0 and 1 not 0 with CR4 bit
+ *               17 clear
  *
  * They are tested in the order SHORT, CARD_SHORT, UNKNOWN, then the settings in the order WIDTH, ROOT,
- * PAGING, EXTENSION, then FORM, and OUTSIDE and FAULT as the walk meets them. The first that applies is
- * answered. Settings are served where none of their four applies.
+ * PAGING, EXTENSION, SPACES, then FORM, and OUTSIDE and FAULT as the walk meets them. The first that
+ * applies is answered. Settings are served where none of their five applies. INVPCID has its own order.
  *
  * A physical address may lie outside the memory lent, since table entries and remembered places may
  * name any. So a host tests that the bytes it wants are inside before it uses them.
@@ -77,6 +86,8 @@ extern "C" {
 #define AALBRETT_ROOT 8
 #define AALBRETT_PAGING 9
 #define AALBRETT_EXTENSION 10
+#define AALBRETT_SPACES 11
+#define AALBRETT_SPACE_NUMBER 12
 
 /*
  * The first 40 bytes of an answer buffer: five little-endian 64-bit numbers. On x86-64 they can be
@@ -108,8 +119,8 @@ struct aalbrett_answer {
  *                         the root table's address in CR3, whose low 12 bits do not count.
  *   width                 the physical width M in bits.
  *                         Served: M from 32 to 52, else WIDTH; CR3 below 2^M, else ROOT; and with PG = 1
- *                         PE = PAE = LME = 1, else PAGING, and CR4 bits 12, 17 and 20 to 24 clear, else
- *                         EXTENSION.
+ *                         PE = PAE = LME = 1, else PAGING, and CR4 bits 12 and 20 to 24 clear, else
+ *                         EXTENSION; with PG = 0 CR4 bit 17 clear, else SPACES.
  *   address               the virtual address.
  *   access, mode          AALBRETT_READ, WRITE or FETCH; AALBRETT_SUPERVISOR or USER.
  *   memory                guest memory: memory_length bytes that the call may read and write. Physical
@@ -154,14 +165,17 @@ struct aalbrett_settings {
  * all pieces of a large page, and no other place.
  *
  * It counts only if marked, its tag is below 2^52 and belongs to its set, its frame is below 2^40, its
- * size is 1 to 3 and its memory type index below 8; every other place reads as empty. Its flags are the
- * bits named below; the other two count for nothing.
+ * size is 1 to 3, its memory type index below 8 and its space number at most 4,095; every other place
+ * reads as empty. Its flags are the bits named below; the other two count for nothing.
+ *
+ * The present space number is CR3 bits 11:0 where CR4 bit 17 is set, else 0. A place serves, and is
+ * dropped with its page, under its own number, or under any where it is global.
  */
 #define AALBRETT_PLACE_WRITE 1u  /* the rights that all entries of its walk gave */
 #define AALBRETT_PLACE_USER 2u
 #define AALBRETT_PLACE_FETCH 4u
 #define AALBRETT_PLACE_DIRTY 8u  /* Dirty, as the walk left it */
-#define AALBRETT_PLACE_GLOBAL 16u /* a root load spares it */
+#define AALBRETT_PLACE_GLOBAL 16u /* G, with CR4.PGE = 1: a root load spares it, and it counts under every space number */
 #define AALBRETT_PLACE_MARKED 32u
 
 struct aalbrett_place {
@@ -170,6 +184,7 @@ struct aalbrett_place {
     uint8_t size;   /* 1, 2, 3: of a page of 4 KiB, 2 MiB, 1 GiB */
     uint8_t flags;
     uint8_t memory_type; /* the memory type index of the walk's last entry */
+    uint16_t number;     /* the space number under which it was walked */
 };
 
 /*
@@ -186,8 +201,9 @@ struct aalbrett_machine {
 /*
  * Starts a machine: its settings become these, and it remembers nothing.
  *
- * Returns DONE, or WIDTH, ROOT, PAGING or EXTENSION where the settings are not served (see aalbrett_walk);
- * the machine then has all registers 0 and M = 40. Nothing of what the record held before counts.
+ * Returns DONE, or WIDTH, ROOT, PAGING, EXTENSION or SPACES where the settings are not served (see
+ * aalbrett_walk), or turn CR4 bit 17 on with CR3 bits 11:0 not 0; the machine then has all registers 0 and
+ * M = 40. Nothing of what the record held before counts.
  */
 uint64_t aalbrett_start(
     struct aalbrett_machine *machine,
@@ -200,8 +216,10 @@ uint64_t aalbrett_start(
 /* The kinds of cards. */
 #define AALBRETT_CARD_TRANSLATE 0 /* access, mode, address */
 #define AALBRETT_CARD_STORE 1     /* address, value: 8 bytes of guest memory, at a physical address */
-#define AALBRETT_CARD_ROOT 2      /* value: CR3. All but G places are dropped */
-#define AALBRETT_CARD_PAGE 3      /* address: each place whose page contains it is dropped */
+#define AALBRETT_CARD_ROOT 2      /* value: CR3. All but G places are dropped; with CR4 bit 17 set those of the
+                                     number loaded that are not G, or none where bit 63 of the value is set,
+                                     which is then no part of CR3 */
+#define AALBRETT_CARD_PAGE 3      /* address: each place whose page contains it is dropped, of the present number or G */
 #define AALBRETT_CARD_ALL 4       /* everything is dropped */
 #define AALBRETT_CARD_SETTINGS 5  /* address: CR0 in its low half, CR4 in its high one; value: EFER; width. CR3 stays,
                                      and everything is dropped */
@@ -231,14 +249,15 @@ struct aalbrett_card {
  * Returns the answer's number, whatever the four hold.
  *
  * A translation is served from what the machine remembers, its memory type index too, and reports 0
- * entries read, where the page is remembered with the rights needed, and for a write with Dirty set.
+ * entries read, where the page is remembered under the present space number or as G, with the rights
+ * needed, and for a write with Dirty set.
  * Otherwise it walks memory as aalbrett_walk does; a success is remembered, and OUTSIDE or FAULT drops
  * the address as AALBRETT_CARD_PAGE does.
  *
  * memory is changed by a translation that walks and is answered DONE, as in aalbrett_walk, and by a
- * store that is answered DONE. SHORT, CARD_SHORT, UNKNOWN, WIDTH, ROOT, PAGING, EXTENSION and FORM
- * change nothing of machine or memory, and a store's OUTSIDE neither. A root or settings load is judged
- * by the settings that it would leave.
+ * store that is answered DONE. SHORT, CARD_SHORT, UNKNOWN, WIDTH, ROOT, PAGING, EXTENSION, SPACES and
+ * FORM change nothing of machine or memory, and a store's OUTSIDE neither. A root or settings load is
+ * judged by the settings that it would leave.
  *
  * No two of the four may overlap, and nothing else may use them during the call; the card may be read.
  * No pointer may be null, also where its length is 0.
@@ -249,6 +268,35 @@ uint64_t aalbrett_step(
     size_t memory_length,
     const uint8_t *card,
     size_t card_length,
+    uint8_t *answer,
+    size_t answer_length);
+
+/* The kinds of INVPCID: what is dropped. */
+#define AALBRETT_INVPCID_ADDRESS 0 /* each place of the number whose page contains the address, but no G place */
+#define AALBRETT_INVPCID_NUMBER 1  /* each place of the number, but no G place */
+#define AALBRETT_INVPCID_ALL 2     /* everything */
+#define AALBRETT_INVPCID_LOCAL 3   /* all but G places */
+
+/*
+ * INVPCID on a machine, in place.
+ *
+ *   machine               changed in place; its settings are not judged.
+ *   kind, number, address what is dropped. A kind does not look at what it does not name, but number is
+ *                         at most 4,095 in every kind.
+ *   answer                as in aalbrett_walk.
+ *
+ * Returns the answer's number: SHORT; UNKNOWN for another kind; SPACE_NUMBER; in kind 0 FORM where the
+ * address is not canonical; else DONE. They are tested in this order, and all but DONE leave the machine
+ * as it is.
+ *
+ * machine and answer must not overlap, and nothing else may use them during the call. Neither pointer may
+ * be null.
+ */
+uint64_t aalbrett_invpcid(
+    struct aalbrett_machine *machine,
+    uint64_t kind,
+    uint64_t number,
+    uint64_t address,
     uint8_t *answer,
     size_t answer_length);
 

@@ -1,7 +1,8 @@
 /*
  * The first exercise on a machine that remembers: press, and the driver counts in its page; move the
  * page, press again, and the old page still counts; drop the page, press again, and the new one does.
- * Then one drop of a large page, and a page that is uncached. Prints each step and checks it. Exits with 1 where anything differs.
+ * Then one drop of a large page, and a page that is uncached. Prints each step and checks it. Exits with
+ * 1 where anything differs.
  */
 #include <inttypes.h>
 #include <stdbool.h>
@@ -22,6 +23,7 @@ _Static_assert(offsetof(struct aalbrett_place, frame) == 8, "a place's frame");
 _Static_assert(offsetof(struct aalbrett_place, size) == 16, "a place's size");
 _Static_assert(offsetof(struct aalbrett_place, flags) == 17, "a place's flags");
 _Static_assert(offsetof(struct aalbrett_place, memory_type) == 18, "a place's memory type index");
+_Static_assert(offsetof(struct aalbrett_place, number) == 20, "a place's space number");
 _Static_assert(sizeof(struct aalbrett_card) == 32, "the size of a card");
 _Static_assert(offsetof(struct aalbrett_card, address) == 8, "a card's address");
 _Static_assert(offsetof(struct aalbrett_card, value) == 16, "a card's value");
@@ -151,6 +153,8 @@ static bool refusals(void) {
     right &= aalbrett_start(&other, 0, 0x10000000000, 0, 0, 40) == AALBRETT_ROOT;
     right &= aalbrett_start(&other, 0x80000001, 0x1000, 0x20, 0, 40) == AALBRETT_PAGING;
     right &= aalbrett_start(&other, 0x80000001, 0x1000, 0x1020, 0x100, 40) == AALBRETT_EXTENSION && other.settings.cr3 == 0;
+    right &= aalbrett_start(&other, 0x80000001, 0x1001, 0x20020, 0x100, 40) == AALBRETT_SPACES;
+    right &= aalbrett_invpcid(&other, AALBRETT_INVPCID_ALL, 0, 0, (uint8_t *)&answer, 39) == AALBRETT_SHORT && answer.answer == 9;
     right &= aalbrett_step(&other, memory, sizeof memory, card, 32, (uint8_t *)&answer, 39) == AALBRETT_SHORT && answer.answer == 9;
     right &= aalbrett_step(&other, memory, sizeof memory, card, 31, (uint8_t *)&answer, sizeof answer) == AALBRETT_CARD_SHORT
         && answer.answer == AALBRETT_CARD_SHORT;

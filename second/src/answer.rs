@@ -25,6 +25,8 @@ impl Answer {
     pub const ROOT: u64 = 8;
     pub const PAGING: u64 = 9;
     pub const EXTENSION: u64 = 10;
+    pub const SPACES: u64 = 11;
+    pub const SPACE_NUMBER: u64 = 12;
 
     /// The answer of that number with all else 0.
     pub fn bare(answer: u64) -> Answer {

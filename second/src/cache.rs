@@ -4,6 +4,8 @@ use crate::translate::Rights;
 
 const SETS: u64 = 16;
 const PLACES: usize = 4;
+/// The largest space number.
+pub const LAST_NUMBER: u64 = 4095;
 
 /// One remembered piece of 4 KiB; a flag is 0 or 1, and the two spare bits beside the flags count for nothing.
 #[derive(Clone, Copy, Debug, Default, PartialEq, Eq)]
@@ -19,10 +21,11 @@ pub struct Place {
     pub global: u8,
     pub spare: u8,
     pub memory_type: u8,
+    pub number: u16,
 }
 
 impl Place {
-    /// Whether the place counts as filled in the set of that number.
+    /// Whether the place counts as filled in that set.
     pub fn filled(&self, set: u64) -> bool {
         self.marked != 0
             && self.tag < 1 << 52
@@ -30,12 +33,34 @@ impl Place {
             && self.frame < 1 << 40
             && (1..=3).contains(&self.size)
             && self.memory_type < 8
+            && u64::from(self.number) <= LAST_NUMBER
     }
 
     /// Whether the place's own page, at the place's own size, contains the address.
     pub fn covers(&self, address: u64) -> bool {
         let bytes = bytes(self.size);
         self.tag / (bytes / 4096) == address / bytes
+    }
+
+    /// Whether the place is of that space number and not G.
+    pub fn only_of(&self, number: u64) -> bool {
+        self.global == 0 && u64::from(self.number) == number
+    }
+
+    /// Whether the place counts under that space number: it is of the number, or G.
+    pub fn counts_under(&self, number: u64) -> bool {
+        self.global != 0 || u64::from(self.number) == number
+    }
+
+    /// Whether a drop of the address under that space number takes the place.
+    pub fn taken(&self, address: u64, number: u64) -> bool {
+        self.covers(address) && self.counts_under(number)
+    }
+
+    /// Whether a fill of the new place leaves this one.
+    pub fn stays_beside(&self, new: &Place) -> bool {
+        let apart = new.global == 0 && !self.counts_under(new.number.into());
+        self.tag != new.tag || apart
     }
 
     /// The rights that the place holds.
@@ -69,15 +94,15 @@ impl Set {
         set
     }
 
-    /// The set with only its filled places that are wanted, gaps closed in order.
-    fn keep(self, number: u64, wanted: impl Fn(&Place) -> bool) -> Set {
+    /// This set, the one of that many, with only its filled places that are wanted, gaps closed in order.
+    fn keep(self, set: u64, wanted: impl Fn(&Place) -> bool) -> Set {
         let places = self.places.into_iter();
-        Set::of(places.filter(|place| place.filled(number) && wanted(place)))
+        Set::of(places.filter(|place| place.filled(set) && wanted(place)))
     }
 
-    /// The set with the new place first and no other of its tag.
-    fn fill(self, number: u64, new: Place) -> Set {
-        let others = self.keep(number, |place| place.tag != new.tag);
+    /// This set with the new place first and no other that it takes the room of.
+    fn fill(self, new: Place) -> Set {
+        let others = self.keep(set_of(new.tag), |place| place.stays_beside(&new));
         let filled = others.places.into_iter().filter(|place| place.marked != 0);
         Set::of([new].into_iter().chain(filled))
     }
@@ -92,7 +117,7 @@ pub fn bytes(size: u8) -> u64 {
     }
 }
 
-/// The number of a tag's set.
+/// A tag's set.
 pub fn set_of(tag: u64) -> u64 {
     tag % SETS
 }
@@ -111,48 +136,47 @@ impl Cache {
         }
     }
 
-    /// The filled places with the tag, in order.
-    pub fn with_tag(&self, tag: u64) -> impl Iterator<Item = &Place> {
-        let number = set_of(tag);
-        let places = self.sets[number as usize].places.iter();
-        places.filter(move |place| place.filled(number) && place.tag == tag)
+    /// The filled places, each with its set.
+    pub fn filled(&self) -> impl Iterator<Item = (u64, &Place)> {
+        let sets = (0..).zip(&self.sets);
+        let places = sets.flat_map(|(set, four)| four.places.iter().map(move |p| (set, p)));
+        places.filter(|(set, place)| place.filled(*set))
     }
 
-    /// The first place with the tag that allows the access, and has D for a write.
-    pub fn hit(&self, tag: u64, needed: Rights, write: bool) -> Option<&Place> {
+    /// The filled places with the tag, in order.
+    pub fn with_tag(&self, tag: u64) -> impl Iterator<Item = &Place> {
+        let places = self.sets[set_of(tag) as usize].places.iter();
+        places.filter(move |place| place.filled(set_of(tag)) && place.tag == tag)
+    }
+
+    /// The first place with the tag under the number that allows the access, and has D for a write.
+    pub fn hit(&self, tag: u64, number: u64, needed: Rights, write: bool) -> Option<&Place> {
         let mut places = self.with_tag(tag);
-        places.find(|place| place.serves(needed, write))
+        places.find(|place| place.counts_under(number) && place.serves(needed, write))
     }
 
     /// Puts a new place first in its set.
     pub fn fill(&mut self, new: Place) {
-        let number = set_of(new.tag);
-        let set = &mut self.sets[number as usize];
-        *set = set.fill(number, new);
+        let set = &mut self.sets[set_of(new.tag) as usize];
+        *set = set.fill(new);
     }
 
-    /// The filled places whose page contains the address, each with its set's number.
-    pub fn covering(&self, address: u64) -> impl Iterator<Item = (u64, &Place)> {
-        let sets = (0..).zip(&self.sets);
-        let places = sets.flat_map(|(number, set)| set.places.iter().map(move |p| (number, p)));
-        places.filter(move |(number, place)| place.filled(*number) && place.covers(address))
-    }
-
-    /// Drops each place whose page contains the address, G or not.
-    pub fn drop_page(&mut self, address: u64) {
-        self.keep(|place| !place.covers(address));
-    }
-
-    /// Drops all but G places.
-    pub fn keep_global(&mut self) {
-        self.keep(|place| place.global != 0);
-    }
-
-    /// Rewrites every set with only its filled places that are wanted.
-    fn keep(&mut self, wanted: impl Fn(&Place) -> bool) {
+    /// Rewrites every set without the filled places that the test takes.
+    pub fn drop(&mut self, takes: impl Fn(&Place) -> bool) {
         for (number, set) in (0..).zip(&mut self.sets) {
-            *set = set.keep(number, &wanted);
+            *set = set.keep(number, |place| !takes(place));
         }
+    }
+
+    /// The places that a drop of the address under the number takes, each with its set.
+    pub fn taken(&self, address: u64, number: u64) -> impl Iterator<Item = (u64, &Place)> {
+        self.filled()
+            .filter(move |(_, place)| place.taken(address, number))
+    }
+
+    /// Drops each place under the number whose page contains the address.
+    pub fn drop_page(&mut self, address: u64, number: u64) {
+        self.drop(|place| place.taken(address, number));
     }
 }
 
@@ -191,12 +215,12 @@ mod tests {
             cache.fill(place(tag));
         }
         assert_eq!(tags(&cache), [0x43, 0x33, 0x23, 0x13]);
-        assert!(cache.hit(0x13, NOTHING, false).is_some());
+        assert!(cache.hit(0x13, 0, NOTHING, false).is_some());
         cache.fill(place(0x53));
         assert_eq!(tags(&cache), [0x53, 0x43, 0x33, 0x23]);
         cache.fill(place(0x33));
         assert_eq!(tags(&cache), [0x33, 0x53, 0x43, 0x23]);
-        cache.drop_page(0x5_3FFF);
+        cache.drop_page(0x5_3FFF, 0);
         assert_eq!(tags(&cache), [0x33, 0x43, 0x23, 0]);
     }
 
@@ -222,8 +246,9 @@ mod tests {
             let neighbours = [page - 1, next];
             for named in own {
                 let mut cache = pieces(size, &[own.as_slice(), &neighbours].concat());
-                assert!(cache.covering(named << 12).count() > 0);
-                cache.drop_page(named << 12 | 0xABC);
+                let covers = |(_, place): (u64, &Place)| place.covers(named << 12);
+                assert!(cache.filled().any(covers));
+                cache.drop_page(named << 12 | 0xABC, 0);
                 assert_eq!(cache, pieces(size, &neighbours));
             }
         }
@@ -235,7 +260,7 @@ mod tests {
         let mut cache = pieces(2, &[0x600]);
         cache.fill(place(0x611));
         cache.fill(place(0x612));
-        cache.drop_page(0x61_1000);
+        cache.drop_page(0x61_1000, 0);
         let mut left = Cache::empty();
         left.fill(place(0x612));
         assert_eq!(cache, left);
@@ -256,11 +281,11 @@ mod tests {
         for set in &mut cache.sets {
             set.places[2].frame = 7;
         }
-        cache.drop_page(0);
+        cache.drop_page(0, 0);
         assert_eq!(cache, Cache::empty());
     }
 
-    /// A root load leaves G places in order, and zeros.
+    /// A drop of all but G places leaves them in order, and zeros.
     #[test]
     fn global_places_stay() {
         let mut cache = Cache::empty();
@@ -270,7 +295,7 @@ mod tests {
                 ..place(tag)
             });
         }
-        cache.keep_global();
+        cache.drop(|place| place.global == 0);
         assert_eq!(tags(&cache), [0x33, 0x13, 0, 0]);
         assert_eq!(cache.sets[3].places[2], Place::default());
     }
@@ -289,6 +314,10 @@ mod tests {
                 ..good
             },
             Place {
+                number: 4096,
+                ..good
+            },
+            Place {
                 frame: 1 << 40,
                 ..good
             },
@@ -304,7 +333,7 @@ mod tests {
                 cache.with_tag(bad.tag).count(),
                 usize::from(bad.tag == 0x13)
             );
-            cache.drop_page(0x2_3000);
+            cache.drop_page(0x2_3000, 0);
             assert_eq!(cache.sets[3], Set::of([good].into_iter()));
         }
     }
@@ -316,7 +345,62 @@ mod tests {
         let (clean, mut dirty) = (place(0x13), place(0x13));
         (dirty.dirty, dirty.frame) = (2, 9);
         cache.sets[3].places = [clean, dirty, clean, clean];
-        let frame = |write| cache.hit(0x13, NOTHING, write).map(|place| place.frame);
+        let frame = |write| cache.hit(0x13, 0, NOTHING, write).map(|place| place.frame);
         assert_eq!((frame(false), frame(true)), (Some(0x14), Some(9)));
+    }
+    /// A place with the tag, of that number, G or not.
+    fn numbered(tag: u64, number: u16, global: u8) -> Place {
+        Place {
+            number,
+            global,
+            ..place(tag)
+        }
+    }
+
+    /// The numbers of set 3 in order.
+    fn numbers(cache: &Cache) -> [u16; 4] {
+        cache.sets[3].places.map(|place| place.number)
+    }
+
+    /// A fill takes its tag's places of its number and G; a G place all of its tag.
+    #[test]
+    fn a_fill_goes_by_number() {
+        let mut cache = Cache::empty();
+        for number in [1, 2, 4095] {
+            cache.fill(numbered(0x13, number, 0));
+        }
+        assert_eq!(numbers(&cache), [4095, 2, 1, 0]);
+        cache.fill(numbered(0x13, 2, 0));
+        assert_eq!(numbers(&cache), [2, 4095, 1, 0]);
+        cache.fill(numbered(0x13, 7, 1));
+        assert_eq!(numbers(&cache), [7, 0, 0, 0]);
+        cache.fill(numbered(0x13, 1, 0));
+        assert_eq!(numbers(&cache), [1, 0, 0, 0]);
+        assert_eq!(tags(&cache), [0x13, 0, 0, 0]);
+    }
+
+    /// A hit wants the same number or a G place.
+    #[test]
+    fn a_hit_goes_by_number() {
+        let mut cache = Cache::empty();
+        cache.fill(numbered(0x13, 1, 0));
+        cache.fill(numbered(0x23, 1, 1));
+        let hit = |tag, number| cache.hit(tag, number, NOTHING, false).is_some();
+        assert!(hit(0x13, 1) && !hit(0x13, 2) && !hit(0x13, 0));
+        assert!(hit(0x23, 1) && hit(0x23, 2) && hit(0x23, 0));
+    }
+
+    /// A drop of a page takes the number's and G places.
+    #[test]
+    fn a_page_drop_goes_by_number() {
+        let mut cache = Cache::empty();
+        for place in [numbered(0x13, 1, 0), numbered(0x13, 2, 0)] {
+            cache.fill(place);
+        }
+        cache.drop_page(0x1_3000, 1);
+        assert_eq!(numbers(&cache), [2, 0, 0, 0]);
+        cache.fill(numbered(0x13, 3, 1));
+        cache.drop_page(0x1_3000, 1);
+        assert_eq!(cache, Cache::empty());
     }
 }

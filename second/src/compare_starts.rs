@@ -34,7 +34,7 @@ pub fn starts(
             theirs.settings,
             theirs.sets == ours.sets,
         );
-        tally.count(&settings_rows("start", &settings));
+        tally.count(&settings_rows("start", &settings, false));
     }
     tally
 }

@@ -151,6 +151,7 @@ fn paging_off(random: &mut Random, case: &mut Case) {
         case.settings.efer = random.word();
     }
     case.settings.cr0 &= !Settings::PG;
+    case.settings.cr4 &= !random.flag(Settings::PCIDE, 80);
     let word = random.word();
     case.address = match random.below(8) {
         0 => (1 << 32) - 1,

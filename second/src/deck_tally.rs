@@ -1,18 +1,17 @@
 //! How often a deck brings up each kind, answer and event of the cache.
 
-use std::collections::BTreeSet;
-
 use crate::answer::Answer;
-use crate::cache::{bytes, set_of, Place};
+use crate::cache::{set_of, Place};
 use crate::card::{step, Card, CARD};
 use crate::deck::MEMORY;
+use crate::deck_drop_tally::{piece_rows, refused_rows};
 use crate::machine::Machine;
 use crate::settings::Settings;
 use crate::tally::Tally;
 use crate::translate::{canonical, translate, FETCH, WRITE};
 
 /// Rows that a good deal of decks brings up.
-const EVENTS: [&str; 41] = [
+const EVENTS: [&str; 52] = [
     "kind 0 answer 0",
     "kind 0 answer 1",
     "kind 0 answer 3",
@@ -29,6 +28,7 @@ const EVENTS: [&str; 41] = [
     "kind 5 answer 8",
     "kind 5 answer 9",
     "kind 5 answer 10",
+    "kind 5 answer 11",
     "unknown kind",
     "paging off",
     "hit of size 1",
@@ -43,16 +43,26 @@ const EVENTS: [&str; 41] = [
     "fault dropped a place",
     "outside dropped a place",
     "root load kept a place",
+    "root load of a number dropped its place",
+    "root load of a number kept another number's place",
+    "root load with bit 63 kept a place of its number",
+    "root load with bit 63 refused",
+    "hit under a number",
+    "hit under a number that a fresh walk differs from",
+    "hit by a G place of another number",
+    "walk beside another number's place of its tag",
     "drop page of a place",
     "drop page of no canonical address",
     "drop page of a 2 MiB page in many sets",
     "drop page of a 1 GiB page in many sets",
     "drop page of a large page through another piece",
     "drop page beside a neighbour that stays",
+    "drop page beside another number's place that stays",
     "refused walk of a 2 MiB page in many sets",
     "refused walk of a 1 GiB page in many sets",
     "refused walk of a large page through another piece",
     "refused walk beside a neighbour that stays",
+    "refused walk beside another number's place that stays",
     "refused walk of a large page that is a table now",
 ];
 
@@ -89,15 +99,16 @@ fn rows(
     let mut rows = vec![format!("kind {kind} answer {}", answer.answer)];
     match *card {
         Card::Unknown { .. } => rows = vec!["unknown kind".into()],
-        Card::LoadRoot { .. } if answer.answer == Answer::DONE => {
-            let kept = after.cache.sets.iter().any(|set| set.places[0].marked != 0);
-            rows.extend(kept.then(|| "root load kept a place".into()));
-        }
+        Card::LoadRoot { value } => root_rows(value, before, after, answer, &mut rows),
         Card::DropPage { address } if !canonical(address) => {
             rows.push("drop page of no canonical address".into());
         }
         Card::DropPage { address } => {
-            let held = before.cache.covering(address).count() > 0;
+            let held = before
+                .cache
+                .taken(address, before.settings.number())
+                .count()
+                > 0;
             rows.extend(held.then(|| "drop page of a place".into()));
             piece_rows("drop page", before, address, &mut rows);
         }
@@ -112,6 +123,42 @@ fn rows(
         _ => {}
     }
     rows
+}
+
+/// Adds what a root load did with the cache.
+fn root_rows(
+    value: u64,
+    before: &Machine,
+    after: &Machine,
+    answer: &Answer,
+    rows: &mut Vec<String>,
+) {
+    let spared = value >> 63 == 1;
+    let number = after.settings.number();
+    let numbered = before.settings.space_numbers();
+    let mut add = |found: bool, row: &str| rows.extend(found.then(|| format!("root load {row}")));
+    if answer.answer != Answer::DONE {
+        return add(spared, "with bit 63 refused");
+    }
+    let own = before
+        .cache
+        .filled()
+        .any(|(_, place)| place.only_of(number));
+    let mut left = after.cache.filled();
+    add(left.next().is_some(), "kept a place");
+    let other = after
+        .cache
+        .filled()
+        .any(|(_, place)| !place.counts_under(number));
+    add(numbered && !spared && own, "of a number dropped its place");
+    add(
+        numbered && !spared && other,
+        "of a number kept another number's place",
+    );
+    add(
+        numbered && spared && own,
+        "with bit 63 kept a place of its number",
+    );
 }
 
 /// Adds what a translation did with the cache.
@@ -137,58 +184,41 @@ fn translation_rows(
         let full = set.places.iter().all(|place| place.marked != 0);
         add(full && !held, "a fifth place fell out");
         add(held, "walk over a place of the page");
+        let mut tagged = before.cache.with_tag(tag);
+        let foreign = tagged.any(|place| !place.counts_under(before.settings.number()));
+        add(foreign, "walk beside another number's place of its tag");
     } else if answer.detail > 0 {
-        let walk = translate(&before.settings, address, access, mode, fresh);
-        let stale = (walk.answer, walk.value) != (answer.answer, answer.value);
-        add(stale, "hit that a fresh walk differs from");
-        let stale = walk.answer == Answer::DONE && walk.memory_type != answer.memory_type;
-        add(stale, "hit of a memory type that a fresh walk differs from");
-        add(access == WRITE, "hit of a write");
-        add(access == FETCH, "hit of a fetch");
-        add(true, &format!("hit of size {}", answer.detail));
+        let fresh = translate(&before.settings, address, access, mode, fresh);
+        hit_rows(before, (tag, access), answer, &fresh, rows);
     }
 }
 
-/// Adds what a refused translation dropped, if it did.
-fn refused_rows(address: u64, before: &Machine, answer: &Answer, rows: &mut Vec<String>) {
-    let row = match answer.answer {
-        Answer::FAULT => "fault dropped a place",
-        Answer::OUTSIDE => "outside dropped a place",
-        _ => return,
-    };
-    let held: Vec<&Place> = before.cache.covering(address).map(|(_, p)| p).collect();
-    let mut add = |found: bool, row: &str| rows.extend(found.then(|| row.to_string()));
-    add(!held.is_empty(), row);
-    let table = held
-        .iter()
-        .any(|place| u64::from(place.size) > answer.detail);
-    add(table, "refused walk of a large page that is a table now");
-    piece_rows("refused walk", before, address, rows);
-}
-
-/// Adds what a drop took of large pages, and whether a neighbour of theirs stayed.
-fn piece_rows(drop: &str, before: &Machine, address: u64, rows: &mut Vec<String>) {
-    let cache = &before.cache;
-    let sets = |size: u8| {
-        let pieces = cache
-            .covering(address)
-            .filter(|(_, place)| place.size == size);
-        pieces.map(|(set, _)| set).collect::<BTreeSet<u64>>().len()
-    };
-    let mut large = cache.covering(address).filter(|(_, place)| place.size > 1);
-    let other = large.any(|(_, place)| place.tag != address >> 12);
-    let beside = |size: u8| {
-        let page = address / bytes(size) * bytes(size);
-        let near = [page.wrapping_sub(1), page.wrapping_add(bytes(size))];
-        let mut places = near.iter().flat_map(|at| cache.covering(*at));
-        places.any(|(_, place)| !place.covers(address))
-    };
-    let stays = [2, 3].iter().any(|size| sets(*size) > 0 && beside(*size));
-    let mut add = |found: bool, row: &str| rows.extend(found.then(|| format!("{drop} {row}")));
-    add(sets(2) > 1, "of a 2 MiB page in many sets");
-    add(sets(3) > 1, "of a 1 GiB page in many sets");
-    add(other, "of a large page through another piece");
-    add(stays, "beside a neighbour that stays");
+/// Adds what is special in a hit, beside the answer of a fresh walk.
+fn hit_rows(
+    before: &Machine,
+    (tag, access): (u64, u64),
+    answer: &Answer,
+    fresh: &Answer,
+    rows: &mut Vec<String>,
+) {
+    let number = before.settings.number();
+    let frame = answer.value >> 12;
+    let mut tagged = before.cache.with_tag(tag).filter(|p| p.frame == frame);
+    let foreign = tagged.all(|place: &Place| u64::from(place.number) != number);
+    let stale = (fresh.answer, fresh.value) != (answer.answer, answer.value);
+    let typed = fresh.answer == Answer::DONE && fresh.memory_type != answer.memory_type;
+    let mut add = |found: bool, row: &str| rows.extend(found.then(|| format!("hit {row}")));
+    add(stale, "that a fresh walk differs from");
+    add(typed, "of a memory type that a fresh walk differs from");
+    add(number != 0, "under a number");
+    add(
+        number != 0 && stale,
+        "under a number that a fresh walk differs from",
+    );
+    add(foreign, "by a G place of another number");
+    add(access == WRITE, "of a write");
+    add(access == FETCH, "of a fetch");
+    add(true, &format!("of size {}", answer.detail));
 }
 
 #[cfg(test)]

@@ -78,8 +78,9 @@ pub fn served(random: &mut Random) -> Settings {
             | random.flag(Settings::WP, 60)
             | (Settings::PE | Settings::PG),
         cr3: 0,
-        cr4: (noise(random) & !(Settings::LEFT_OUT | Settings::PGE))
+        cr4: (noise(random) & !(Settings::LEFT_OUT | Settings::PGE | Settings::PCIDE))
             | random.flag(Settings::PGE, 50)
+            | random.flag(Settings::PCIDE, 35)
             | Settings::PAE,
         efer: (noise(random) & !Settings::NXE) | random.flag(Settings::NXE, 65) | Settings::LME,
         width,

@@ -175,8 +175,16 @@ pub fn drop_page(random: &mut Random, pages: &[u64]) -> Card {
     }
 }
 
-/// A load of one of the two roots, now and then of one too large or at the border of a width.
-pub fn load_root(random: &mut Random) -> Card {
+/// How often settings have PGE and the space numbers, in a hundred draws.
+#[derive(Clone, Copy)]
+pub struct Likely {
+    pub global: u64,
+    pub numbered: u64,
+}
+
+/// A load of one of the two roots, often with a space number, now and then of one too large or at the
+/// border of a width.
+pub fn load_root(random: &mut Random, likely: Likely) -> Card {
     let refused = 1 << random.between(32, 63);
     let border = 1 << random.pick(&[32, 36, 39, 40, 52]);
     let value = match random.below(20) {
@@ -187,17 +195,21 @@ pub fn load_root(random: &mut Random) -> Card {
         5..=12 => 0x6000,
         _ => 0x1000,
     };
-    Card::LoadRoot { value }
+    let number = random.pick(&[1, 2, 2, 3, 0xFFF]);
+    let spared = random.flag(1 << 63, likely.numbered / 2);
+    Card::LoadRoot {
+        value: value | random.flag(number, likely.numbered) | spared,
+    }
 }
 
-/// Served settings with paging on; PGE in so many of a hundred draws.
-pub fn settings(random: &mut Random, global: u64) -> Card {
-    loaded(&paging_on(random, global))
+/// Served settings with paging on, where CR3 allows for them.
+pub fn settings(random: &mut Random, likely: Likely) -> Card {
+    loaded(&paging_on(random, likely))
 }
 
 /// Settings that break one of the rules or two of them.
-pub fn refused_settings(random: &mut Random) -> Card {
-    let mut settings = paging_on(random, 50);
+pub fn refused_settings(random: &mut Random, likely: Likely) -> Card {
+    let mut settings = paging_on(random, likely);
     unserved(random, &mut settings);
     loaded(&settings)
 }
@@ -205,20 +217,23 @@ pub fn refused_settings(random: &mut Random) -> Card {
 /// Settings with paging off and other bits anything.
 pub fn paging_off(random: &mut Random) -> Card {
     let word = random.word();
+    let spaces = random.flag(Settings::PCIDE, 90) as u32;
     Card::LoadSettings {
         cr0: word as u32 & !(Settings::PG as u32),
-        cr4: (word >> 32) as u32,
+        cr4: (word >> 32) as u32 & !spaces,
         efer: random.word(),
         width: random.pick(&[40, 32, 52]),
     }
 }
 
-/// Settings with paging on that suit a deck; PGE in so many of a hundred draws.
-fn paging_on(random: &mut Random, global: u64) -> Settings {
+/// Settings with paging on that suit a deck.
+fn paging_on(random: &mut Random, likely: Likely) -> Settings {
     Settings {
         cr0: Settings::PE | Settings::PG | random.flag(Settings::WP, 60),
         cr3: 0x1000,
-        cr4: Settings::PAE | random.flag(Settings::PGE, global),
+        cr4: Settings::PAE
+            | random.flag(Settings::PGE, likely.global)
+            | random.flag(Settings::PCIDE, likely.numbered),
         efer: Settings::LME | random.flag(Settings::NXE, 75),
         width: random.pick(&[40, 40, 40, 40, 36, 39, 52, 32]),
     }

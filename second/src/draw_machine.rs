@@ -6,8 +6,9 @@ use crate::case::{Background, Case};
 use crate::deck::MEMORY;
 use crate::draw::served;
 use crate::draw_card::{drop_page, load_root, outside_store, paging_off, refused_settings};
-use crate::draw_card::{settings, table_entry, table_store, translation, typed, ENTRIES, PAGES};
-use crate::draw_place::set;
+use crate::draw_card::{settings, table_entry, table_store, translation, typed};
+use crate::draw_card::{Likely, ENTRIES, PAGES};
+use crate::draw_place::{set, Near};
 use crate::draw_settings::unserved;
 use crate::machine::Machine;
 use crate::random::Random;
@@ -17,6 +18,11 @@ use crate::settings::Settings;
 const MEMORIES: [usize; 8] = [
     MEMORY, MEMORY, MEMORY, MEMORY, 40000, 0x4220, 0x501B, 0x1007,
 ];
+/// How often loaded settings have PGE and space numbers.
+const LIKELY: Likely = Likely {
+    global: 60,
+    numbered: 45,
+};
 /// So many pages are asked for.
 const ASKED: usize = 3;
 
@@ -32,21 +38,35 @@ impl Bench {
     pub fn draw(random: &mut Random) -> Bench {
         let pages: Vec<u64> = (0..ASKED).map(|_| page(random)).collect();
         let settings = any_settings(random);
-        let mut cache = Cache::empty();
-        for (number, room) in (0..).zip(&mut cache.sets) {
-            *room = set(random, number, &pages);
-        }
-        Bench {
+        let machine = Machine {
+            settings,
+            cache: Cache::empty(),
+        };
+        let mut bench = Bench {
             memory: memory(random, settings),
-            machine: Machine { settings, cache },
+            machine,
             pages,
+        };
+        let near = bench.near();
+        for (set_number, room) in (0..).zip(&mut bench.machine.cache.sets) {
+            *room = set(random, set_number, &near);
         }
+        bench
     }
 
     /// Draws the set of one of the pages anew, as a host may between calls.
     pub fn redraw(&mut self, random: &mut Random) {
-        let number = set_of(random.pick(&self.pages) >> 12);
-        self.machine.cache.sets[number as usize] = set(random, number, &self.pages);
+        let set_number = set_of(random.pick(&self.pages) >> 12);
+        let near = self.near();
+        self.machine.cache.sets[set_number as usize] = set(random, set_number, &near);
+    }
+
+    /// What places are often of.
+    fn near(&self) -> Near {
+        Near {
+            tags: self.pages.iter().map(|page| page >> 12).collect(),
+            number: self.machine.settings.number(),
+        }
     }
 
     /// The bytes of any card, now and then too few or too many.
@@ -74,7 +94,7 @@ fn page(random: &mut Random) -> u64 {
 /// Settings: mostly served with paging on, else off, not served in one way, or rubbish.
 fn any_settings(random: &mut Random) -> Settings {
     let mut settings = served(random);
-    settings.cr3 = random.pick(&[0x1000, 0x1000, 0x1000, 0x1FFF, 0x6000]);
+    settings.cr3 = random.pick(&[0x1000, 0x1000, 0x1000, 0x1001, 0x1002, 0x1FFF, 0x6000]);
     if random.chance(6) {
         let border = 1 << random.pick(&[32, 36, 39, 40, 40, 52]);
         settings.cr3 = random.pick(&[border, border - 1]);
@@ -127,10 +147,10 @@ fn any_card(random: &mut Random, pages: &[u64]) -> Card {
     match random.below(100) {
         0..=59 => translation(random, pages),
         60..=73 => drop_page(random, pages),
-        74..=82 => load_root(random),
+        74..=82 => load_root(random, LIKELY),
         83 => Card::DropAll,
-        84..=86 => settings(random, 60),
-        87..=88 => refused_settings(random),
+        84..=86 => settings(random, LIKELY),
+        87..=88 => refused_settings(random, LIKELY),
         89 => paging_off(random),
         90..=94 => {
             let (address, usual) = random.pick(&ENTRIES);

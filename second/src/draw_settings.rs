@@ -23,11 +23,11 @@ const WIDTHS: [u64; 16] = [
     u64::MAX,
 ];
 /// The rules in the order of their tests.
-const RULES: [fn(&mut Random, &mut Settings); 4] = [width, root, paging, extension];
+const RULES: [fn(&mut Random, &mut Settings); 5] = [width, root, paging, extension, spaces];
 
 /// Breaks a rule of served settings, or it and the next; now and then paging is then turned off.
 pub fn unserved(random: &mut Random, settings: &mut Settings) {
-    let first = random.below(4) as usize;
+    let first = random.below(5) as usize;
     let rules = random.pick(&[1, 1, 1, 2]);
     for rule in RULES.iter().skip(first).take(rules) {
         rule(random, settings);
@@ -62,4 +62,14 @@ fn paging(random: &mut Random, settings: &mut Settings) {
 /// Sets a bit of CR4 that is not served.
 fn extension(random: &mut Random, settings: &mut Settings) {
     settings.cr4 |= 1 << random.pick(&Settings::EXTENSIONS);
+}
+
+/// Sets the bit of space numbers, mostly with paging off or with low bits of CR3.
+fn spaces(random: &mut Random, settings: &mut Settings) {
+    settings.cr4 |= Settings::PCIDE;
+    if random.chance(40) {
+        settings.cr0 &= !Settings::PG;
+    } else {
+        settings.cr3 |= 1 << random.below(12);
+    }
 }

@@ -12,7 +12,7 @@ use crate::walk::walk;
 /// The drops that go by an address.
 const DROPS: [&str; 3] = ["page drop", "fault's drop", "outside's drop"];
 /// What each of them meets.
-const MEETS: [&str; 13] = [
+const MEETS: [&str; 16] = [
     "of no place",
     "of two places",
     "of a G place",
@@ -20,6 +20,9 @@ const MEETS: [&str; 13] = [
     "of a 2 MiB page through another piece",
     "of a 1 GiB page through another piece",
     "of places of different sizes",
+    "of a G place of another number",
+    "leaves another number's piece",
+    "leaves another number's piece at CR4 bit 17 = 0",
     "leaves a 4 KiB page beside in its 2 MiB",
     "leaves a 2 MiB page beside in its 1 GiB",
     "leaves the 2 MiB page before or after",
@@ -50,12 +53,13 @@ pub fn drop_page_rows(call: &Call, address: u64, rows: &mut Vec<String>) {
         return drop_rows("page drop", call, address, rows);
     }
     let mut sets = (0..).zip(&call.before.cache.sets);
-    let held = call.before.cache.covering(address).count() > 0;
+    let number = call.before.settings.number();
+    let held = call.before.cache.taken(address, number).count() > 0;
     let mut add = |found: bool, row: &str| {
         rows.extend(found.then(|| format!("page drop of no canonical address {row}")));
     };
     add(
-        sets.any(|(number, set)| rubbish(set, number)),
+        sets.any(|(set_number, set)| rubbish(set, set_number)),
         "beside rubbish",
     );
     add(held, "that a place covers");
@@ -70,7 +74,8 @@ pub fn refused_rows(call: &Call, address: u64, rows: &mut Vec<String>) {
     };
     drop_rows(drop, call, address, rows);
     let end = walk(&call.before.settings, address, call.memory).end;
-    for (_, place) in call.before.cache.covering(address) {
+    let number = call.before.settings.number();
+    for (_, place) in call.before.cache.taken(address, number) {
         if u64::from(place.size) > end.level() {
             let page = match (drop, place.size) {
                 ("outside's drop", _) => "large",
@@ -85,7 +90,8 @@ pub fn refused_rows(call: &Call, address: u64, rows: &mut Vec<String>) {
 /// Adds what a drop of an address met.
 fn drop_rows(drop: &str, call: &Call, address: u64, rows: &mut Vec<String>) {
     let cache = &call.before.cache;
-    let taken: Vec<(u64, &Place)> = cache.covering(address).collect();
+    let number = call.before.settings.number();
+    let taken: Vec<(u64, &Place)> = cache.taken(address, number).collect();
     let sets: BTreeSet<u64> = taken.iter().map(|(set, _)| *set).collect();
     let sizes: BTreeSet<u8> = taken.iter().map(|(_, place)| place.size).collect();
     let other = |size: u8| {
@@ -100,37 +106,43 @@ fn drop_rows(drop: &str, call: &Call, address: u64, rows: &mut Vec<String>) {
     add(other(2), "of a 2 MiB page through another piece");
     add(other(3), "of a 1 GiB page through another piece");
     add(sizes.len() > 1, "of places of different sizes");
+    let foreign = |place: &Place| u64::from(place.number) != number;
+    let global = taken.iter().any(|(_, place)| foreign(place));
+    add(global, "of a G place of another number");
     left_rows(drop, call, address, rows);
-    for (number, set) in (0..).zip(&cache.sets) {
+    for (set_number, set) in (0..).zip(&cache.sets) {
         let mut add = |found: bool, row: &str| rows.extend(found.then(|| format!("{drop} {row}")));
-        let beside = sets.contains(&number);
+        let beside = sets.contains(&set_number);
         add(
-            !beside && rubbish(set, number),
+            !beside && rubbish(set, set_number),
             "rewrites a set that has no piece",
         );
         add(
-            beside && rubbish(set, number),
+            beside && rubbish(set, set_number),
             "rewrites a set beside a piece",
         );
-        let spares = |place: &Place| !place.covers(address);
-        rewrite_rows(drop, number, set, spares, rows);
+        let spares = |place: &Place| !place.taken(address, number);
+        rewrite_rows(drop, set_number, set, spares, rows);
     }
 }
 
 /// Adds which places near the address a drop leaves.
 fn left_rows(drop: &str, call: &Call, address: u64, rows: &mut Vec<String>) {
-    let sets = (0..).zip(&call.before.cache.sets);
-    let places = sets.flat_map(|(number, set)| set.places.iter().map(move |p| (number, p)));
-    let left = places.filter(|(number, p)| p.filled(*number) && !p.covers(address));
-    for (_, place) in left {
+    let settings = &call.before.settings;
+    let filled = call.before.cache.filled();
+    for (_, place) in filled.filter(|(_, place)| !place.taken(address, settings.number())) {
         let start = place.tag << 12;
         let within = |size: u8| start / bytes(size) == address / bytes(size);
         let apart = (start / bytes(place.size)).abs_diff(address / bytes(place.size));
         let mut add = |found: bool, row: &str| rows.extend(found.then(|| format!("{drop} {row}")));
+        let covers = place.covers(address);
+        add(covers, "leaves another number's piece");
+        let off = "leaves another number's piece at CR4 bit 17 = 0";
+        add(covers && !settings.space_numbers(), off);
         let small = "leaves a 4 KiB page beside in its 2 MiB";
-        add(place.size == 1 && within(2), small);
+        add(place.size == 1 && within(2) && !covers, small);
         let medium = "leaves a 2 MiB page beside in its 1 GiB";
-        add(place.size == 2 && within(3), medium);
+        add(place.size == 2 && within(3) && !covers, medium);
         let near = "leaves the 2 MiB page before or after";
         add(place.size == 2 && apart == 1, near);
         let near = "leaves the 1 GiB page before or after";

@@ -127,11 +127,10 @@ impl FastCache {
         if !settings.paging() {
             return unpaged(address);
         }
-        let tag = address >> 12;
-        let number = set_of(tag);
-        let set = &mut self.sets[number as usize];
+        let (tag, number) = (address >> 12, settings.number());
+        let set = &mut self.sets[set_of(tag) as usize];
         let needed = Rights::needed(settings, access, mode);
-        if let Some(place) = hit(set, number, tag, needed, access == WRITE) {
+        if let Some(place) = hit(set, (tag, number), needed, access == WRITE) {
             return Answer {
                 answer: Answer::DONE,
                 value: place.frame << 12 | address & 0xFFF,
@@ -156,21 +155,22 @@ impl FastCache {
                 global: (settings.global_pages() && last & walk::GLOBAL != 0).into(),
                 spare: 0,
                 memory_type: answer.memory_type as u8,
+                number: number as u16,
             };
-            fill(set, number, new);
+            fill(set, new);
         } else {
-            self.drop_page(address);
+            self.drop_page(address, number);
         }
         answer
     }
 
-    /// Drops each place whose page contains the address, gaps closed.
-    fn drop_page(&mut self, address: u64) {
-        for (number, set) in (0..).zip(&mut self.sets) {
+    /// Drops each place under the number whose page contains the address, gaps closed.
+    fn drop_page(&mut self, address: u64, number: u64) {
+        for (set_number, set) in (0..).zip(&mut self.sets) {
             let mut room = 0;
             for at in 0..4 {
                 let place = set[at];
-                if place.filled(number) && !place.covers(address) {
+                if place.filled(set_number) && !place.taken(address, number) {
                     set[room] = place;
                     room += 1;
                 }
@@ -219,17 +219,19 @@ impl FastMachine {
     }
 }
 
-/// The first filled place with the tag that allows the access, and has D for a write.
+/// The first filled place with the tag under the number that allows the access, and has D for a write.
 #[inline(always)]
-fn hit(set: &[Place; 4], number: u64, tag: u64, needed: Rights, write: bool) -> Option<&Place> {
+fn hit(set: &[Place; 4], (tag, number): (u64, u64), needed: Rights, write: bool) -> Option<&Place> {
+    let counts = |place: &Place| place.tag == tag && place.counts_under(number);
     set.iter()
-        .find(|place| place.tag == tag && place.filled(number) && place.serves(needed, write))
+        .find(|place| counts(place) && place.filled(set_of(tag)) && place.serves(needed, write))
 }
 
-/// Puts the new place first, without the others of its tag, gaps closed; mostly there is none to close.
+/// Puts the new place first, without those it takes the room of, gaps closed; mostly there is none to close.
 #[inline(always)]
-fn fill(set: &mut [Place; 4], number: u64, new: Place) {
-    let stays = |place: &Place| place.filled(number) && place.tag != new.tag;
+fn fill(set: &mut [Place; 4], new: Place) {
+    let own = set_of(new.tag);
+    let stays = |place: &Place| place.filled(own) && place.stays_beside(&new);
     if set[..3].iter().all(stays) {
         set.copy_within(..3, 1);
         set[0] = new;

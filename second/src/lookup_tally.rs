@@ -8,7 +8,7 @@ use crate::translate::{Rights, WRITE};
 use crate::walk::{walk, End};
 
 /// Rows of a look into a set.
-const LOOKUPS: [&str; 22] = [
+const LOOKUPS: [&str; 27] = [
     "passed over, not filled: mark",
     "passed over, not filled: frame",
     "passed over, not filled: size",
@@ -18,6 +18,9 @@ const LOOKUPS: [&str; 22] = [
     "passed over for fetch at NXE = 0",
     "passed over for fetch at NXE = 1",
     "passed over for D",
+    "passed over for its number at CR4 bit 17 = 0",
+    "passed over for its number at CR4 bit 17 = 1",
+    "passed over, not filled: number",
     "hit by the first place of the tag",
     "hit by a later place of the tag",
     "hit by the first of two that serve",
@@ -31,6 +34,8 @@ const LOOKUPS: [&str; 22] = [
     "hit of size 3",
     "hit of a page that the tables lack",
     "hit of a memory type that the tables no longer have",
+    "hit under a number",
+    "hit by a G place of another number",
 ];
 
 /// Every row of a look into a set.
@@ -73,19 +78,23 @@ impl Asked {
 pub fn lookup_rows(before: &Machine, asked: &Asked, memory: &[u8], rows: &mut Vec<String>) -> bool {
     let settings = &before.settings;
     let tag = asked.address >> 12;
-    let number = set_of(tag);
-    let set = &before.cache.sets[number as usize];
+    let set_number = set_of(tag);
+    let set = &before.cache.sets[set_number as usize];
     let tagged: Vec<&Place> = set.places.iter().filter(|p| p.tag == tag).collect();
-    let hits = |place: &&Place| place.filled(number) && asked.served_by(settings, place);
+    let number = settings.number();
+    let hits = |place: &&Place| {
+        let counts = place.filled(set_number) && place.counts_under(number);
+        counts && asked.served_by(settings, place)
+    };
     let found = tagged.iter().position(hits);
     let (passed, rest) = tagged.split_at(found.unwrap_or(tagged.len()));
     for place in passed {
-        passed_rows(settings, asked, place, number, rows);
+        passed_rows(settings, asked, place, set_number, rows);
     }
     let Some((place, later)) = rest.split_first() else {
         return false;
     };
-    let first = !passed.iter().any(|place| place.filled(number));
+    let first = !passed.iter().any(|place| place.filled(set_number));
     let differs = |other: &&&Place| (other.frame, other.size) != (place.frame, place.size);
     let second = later.iter().filter(differs).any(hits);
     let walk = walk(settings, asked.address, memory);
@@ -95,9 +104,12 @@ pub fn lookup_rows(before: &Machine, asked: &Asked, memory: &[u8], rows: &mut Ve
     add(first, "hit by the first place of the tag");
     add(!first, "hit by a later place of the tag");
     add(second, "hit by the first of two that serve");
-    add(rubbish(set, number), "hit beside rubbish");
+    add(rubbish(set, set_number), "hit beside rubbish");
     add(!mapped, "hit of a page that the tables lack");
     add(stale, "hit of a memory type that the tables no longer have");
+    let foreign = u64::from(place.number) != number;
+    add(foreign, "hit by a G place of another number");
+    add(number != 0 && place.only_of(number), "hit under a number");
     hit_rows(asked, place, rows);
     true
 }
@@ -120,11 +132,12 @@ fn passed_rows(
     settings: &Settings,
     asked: &Asked,
     place: &Place,
-    number: u64,
+    set_number: u64,
     rows: &mut Vec<String>,
 ) {
     let needed = asked.needed(settings);
     let nxe = u8::from(settings.no_execute());
+    let numbered = u8::from(settings.space_numbers());
     let lacking = [
         (needed.write && place.write == 0, "R/W".into()),
         (needed.user && place.user == 0, "U/S".into()),
@@ -133,14 +146,18 @@ fn passed_rows(
             format!("fetch at NXE = {nxe}"),
         ),
         (asked.access == WRITE && place.dirty == 0, "D".into()),
+        (
+            !place.counts_under(settings.number()),
+            format!("its number at CR4 bit 17 = {numbered}"),
+        ),
     ];
     let lacking: Vec<String> = lacking
         .into_iter()
         .filter_map(|(lacks, why): (bool, String)| lacks.then_some(why))
         .collect();
-    match (lacking.as_slice(), broken_rule(place, number)) {
+    match (lacking.as_slice(), broken_rule(place, set_number)) {
         ([], Some(rule)) => rows.push(format!("passed over, not filled: {rule}")),
-        ([why], None) if place.filled(number) => rows.push(format!("passed over for {why}")),
+        ([why], None) if place.filled(set_number) => rows.push(format!("passed over for {why}")),
         _ => {}
     }
 }

@@ -1,7 +1,7 @@
 //! The machine: settings and cache, and the calls that change them.
 
 use crate::answer::Answer;
-use crate::cache::{Cache, Place};
+use crate::cache::{Cache, Place, LAST_NUMBER};
 use crate::settings::Settings;
 use crate::translate::{canonical, refusal, unpaged, walked, Rights, WRITE};
 use crate::walk::{Walk, DIRTY, GLOBAL};
@@ -16,12 +16,12 @@ pub struct Machine {
 impl Machine {
     /// A machine with these settings and an empty cache; refused, with registers 0 and M = 40.
     pub fn start(settings: Settings) -> (Answer, Machine) {
-        let (number, settings) = match settings.refusal() {
+        let (answer, settings) = match settings.load_refusal(false) {
             None => (Answer::DONE, settings),
-            Some(number) => (number, Settings::initial()),
+            Some(refusal) => (refusal, Settings::initial()),
         };
         let cache = Cache::empty();
-        (Answer::bare(number), Machine { settings, cache })
+        (Answer::bare(answer), Machine { settings, cache })
     }
 
     /// The translation: refusal, hit, or a walk that fills or drops.
@@ -32,9 +32,9 @@ impl Machine {
         if !self.settings.paging() {
             return unpaged(address);
         }
-        let tag = address >> 12;
+        let (tag, number) = (address >> 12, self.settings.number());
         let needed = Rights::needed(&self.settings, access, mode);
-        if let Some(place) = self.cache.hit(tag, needed, access == WRITE) {
+        if let Some(place) = self.cache.hit(tag, number, needed, access == WRITE) {
             return Answer {
                 answer: Answer::DONE,
                 value: place.frame << 12 | address & 0xFFF,
@@ -48,7 +48,7 @@ impl Machine {
             let place = self.place(tag, access == WRITE, &answer, &walk);
             self.cache.fill(place);
         } else {
-            self.cache.drop_page(address);
+            self.cache.drop_page(address, number);
         }
         answer
     }
@@ -69,20 +69,26 @@ impl Machine {
             global: (self.settings.global_pages() && last & GLOBAL != 0).into(),
             spare: 0,
             memory_type: answer.memory_type as u8,
+            number: self.settings.number() as u16,
         }
     }
 
-    /// Loads CR3 and drops all but G places, if the settings are then served.
-    pub fn load_root(&mut self, cr3: u64) -> Answer {
-        let settings = Settings {
-            cr3,
-            ..self.settings
-        };
-        if let Some(number) = settings.refusal() {
-            return Answer::bare(number);
+    /// Loads CR3, if the settings are then served, and drops what the value says.
+    ///
+    /// Without space numbers all but G places go. With them those of the number loaded go, or none where
+    /// bit 63 is set, which is no part of CR3.
+    pub fn load_root(&mut self, value: u64) -> Answer {
+        let settings = self.settings.with_root(value);
+        if let Some(refusal) = settings.refusal() {
+            return Answer::bare(refusal);
         }
         self.settings = settings;
-        self.cache.keep_global();
+        let number = settings.number();
+        match (settings.space_numbers(), value >> 63) {
+            (false, _) => self.cache.drop(|place| place.global == 0),
+            (true, 0) => self.cache.drop(|place| place.only_of(number)),
+            (true, _) => self.cache.drop(|_| false),
+        }
         Answer::bare(Answer::DONE)
     }
 
@@ -95,17 +101,17 @@ impl Machine {
             width,
             ..self.settings
         };
-        if let Some(number) = settings.refusal() {
-            return Answer::bare(number);
+        if let Some(refusal) = settings.load_refusal(self.settings.space_numbers()) {
+            return Answer::bare(refusal);
         }
         self.settings = settings;
         self.drop_all()
     }
 
-    /// Drops each place whose page contains the address; a non-canonical one changes nothing.
+    /// Drops each place under the present number whose page contains the address; a non-canonical one changes nothing.
     pub fn drop_page(&mut self, address: u64) -> Answer {
         if canonical(address) {
-            self.cache.drop_page(address);
+            self.cache.drop_page(address, self.settings.number());
         }
         Answer::bare(Answer::DONE)
     }
@@ -114,6 +120,34 @@ impl Machine {
     pub fn drop_all(&mut self) -> Answer {
         self.cache = Cache::empty();
         Answer::bare(Answer::DONE)
+    }
+
+    /// INVPCID: drops one address in one number, one number, everything, or all but G places.
+    pub fn invpcid(&mut self, kind: u64, number: u64, address: u64) -> Answer {
+        if let Some(refusal) = self.invpcid_refusal(kind, number, address) {
+            return Answer::bare(refusal);
+        }
+        match kind {
+            0 => self
+                .cache
+                .drop(|place| place.covers(address) && place.only_of(number)),
+            1 => self.cache.drop(|place| place.only_of(number)),
+            2 => self.cache = Cache::empty(),
+            _ => self.cache.drop(|place| place.global == 0),
+        }
+        Answer::bare(Answer::DONE)
+    }
+
+    /// The number that refuses an INVPCID, if one does; settings are not judged.
+    fn invpcid_refusal(&self, kind: u64, number: u64, address: u64) -> Option<u64> {
+        let foreign = number != 0 && !self.settings.space_numbers();
+        if kind > 3 {
+            Some(Answer::UNKNOWN)
+        } else if number > LAST_NUMBER || (kind < 2 && foreign) {
+            Some(Answer::SPACE_NUMBER)
+        } else {
+            (kind == 0 && !canonical(address)).then_some(Answer::FORM)
+        }
     }
 }
 

@@ -1,18 +1,20 @@
 //! How often steps on handmade machines met each rule.
 
 use crate::answer::Answer;
-use crate::cache::{set_of, Place, Set};
+use crate::cache::set_of;
 use crate::card::{Card, CARD};
 use crate::drop_tally::{self, drop_page_rows, refused_rows};
+use crate::fill_tally::{self, fill_rows};
 use crate::lookup_tally::{self, lookup_rows, Asked};
 use crate::machine::Machine;
-use crate::rewrite_tally::{self, rewrite_rows, rubbish};
+use crate::rewrite_tally::{self, rubbish};
+use crate::root_tally::{self, root_rows};
 use crate::settings::Settings;
 use crate::settings_tally::{self, settings_rows};
 use crate::tally::Tally;
 
 /// Rows of single calls.
-const CALLS: [&str; 45] = [
+const CALLS: [&str; 40] = [
     "kind 0 answer 0",
     "kind 0 answer 1",
     "kind 0 answer 2",
@@ -22,6 +24,7 @@ const CALLS: [&str; 45] = [
     "kind 0 answer 8",
     "kind 0 answer 9",
     "kind 0 answer 10",
+    "kind 0 answer 11",
     "kind 1 answer 0",
     "kind 1 answer 4",
     "kind 2 answer 0",
@@ -29,6 +32,7 @@ const CALLS: [&str; 45] = [
     "kind 2 answer 8",
     "kind 2 answer 9",
     "kind 2 answer 10",
+    "kind 2 answer 11",
     "kind 3 answer 0",
     "kind 4 answer 0",
     "kind 5 answer 0",
@@ -36,6 +40,7 @@ const CALLS: [&str; 45] = [
     "kind 5 answer 8",
     "kind 5 answer 9",
     "kind 5 answer 10",
+    "kind 5 answer 11",
     "unknown kind",
     "short card",
     "long card",
@@ -45,14 +50,6 @@ const CALLS: [&str; 45] = [
     "address form beside rubbish",
     "address form of a tag that is held",
     "paging off beside the page's place",
-    "fill over a place of its tag",
-    "fill over two places of its tag",
-    "fill pushes a fifth place out",
-    "fill where rubbish makes room for a fourth",
-    "fill leaves another piece of its large page",
-    "root load keeps a G place",
-    "root load keeps a G place at PGE = 0",
-    "root load drops a place",
     "root load serves settings that were not",
     "settings load serves settings that were not",
     "page drop under settings not served",
@@ -80,7 +77,9 @@ pub fn tally() -> Tally {
             .flat_map(|judge| settings_tally::expected(judge)),
     );
     rows.extend(lookup_tally::expected());
+    rows.extend(fill_tally::expected());
     rows.extend(drop_tally::expected());
+    rows.extend(root_tally::expected());
     rows.extend(rewrite_tally::expected());
     rows.push("spare bits kept".into());
     rows.push("root load keeps a G place with spare bits".into());
@@ -117,9 +116,9 @@ fn card_rows(call: &Call, card: Card) -> Vec<String> {
             translation_rows(call, &asked, &mut rows);
         }
         Card::Store { .. } => add(unserved, "store under settings not served"),
-        Card::LoadRoot { .. } if done => {
+        Card::LoadRoot { value } => {
             add(unserved, "root load serves settings that were not");
-            root_rows(call, &mut rows);
+            root_rows(call, value, &mut rows);
         }
         Card::LoadSettings { .. } => add(unserved, "settings load serves settings that were not"),
         Card::DropPage { address } => {
@@ -127,7 +126,7 @@ fn card_rows(call: &Call, card: Card) -> Vec<String> {
             drop_page_rows(call, address, &mut rows);
         }
         Card::DropAll => add(unserved, "drop all under settings not served"),
-        _ => {}
+        Card::Unknown { .. } => {}
     }
     rows
 }
@@ -137,15 +136,9 @@ fn judged_rows(call: &Call, card: &Card) -> Vec<String> {
     let before = call.before.settings;
     match *card {
         Card::Translate { .. } if call.returned != Answer::UNKNOWN => {
-            settings_rows("translation", &before)
+            settings_rows("translation", &before, true)
         }
-        Card::LoadRoot { value } => {
-            let left = Settings {
-                cr3: value,
-                ..before
-            };
-            settings_rows("root load", &left)
-        }
+        Card::LoadRoot { value } => settings_rows("root load", &before.with_root(value), true),
         Card::LoadSettings {
             cr0,
             cr4,
@@ -159,26 +152,20 @@ fn judged_rows(call: &Call, card: &Card) -> Vec<String> {
                 width: width.into(),
                 ..before
             };
-            settings_rows("settings load", &left)
+            settings_rows("settings load", &left, before.space_numbers())
         }
         _ => Vec::new(),
     }
 }
 
-/// The number of a tag's set, and that set before the call.
-fn set<'a>(call: &'a Call, tag: u64) -> (u64, &'a Set) {
-    let number = set_of(tag);
-    (number, &call.before.cache.sets[number as usize])
-}
-
 /// Adds the rows of a translation: its refusal, or its look, fill or drop.
 fn translation_rows(call: &Call, asked: &Asked, rows: &mut Vec<String>) {
     let tag = asked.address >> 12;
-    let (number, set) = set(call, tag);
+    let set = &call.before.cache.sets[set_of(tag) as usize];
     let settings = &call.before.settings;
     let held = call.before.cache.with_tag(tag).count() > 0;
     let mut add = |found: bool, row: &str| rows.extend(found.then(|| row.to_string()));
-    let beside = rubbish(set, number);
+    let beside = rubbish(set, set_of(tag));
     match call.returned {
         Answer::UNKNOWN => add(beside, "unknown access or mode beside rubbish"),
         _ if !settings.served() => add(beside, "settings not served beside rubbish"),
@@ -194,46 +181,4 @@ fn translation_rows(call: &Call, asked: &Asked, rows: &mut Vec<String>) {
         Answer::DONE => fill_rows(call, tag, rows),
         _ => refused_rows(call, asked.address, rows),
     }
-}
-
-/// Adds what a fill met in its set.
-fn fill_rows(call: &Call, tag: u64, rows: &mut Vec<String>) {
-    let (number, set) = set(call, tag);
-    let removed = call.before.cache.with_tag(tag).count();
-    let filled = set.places.iter().filter(|place| place.filled(number));
-    let others = filled.count() - removed;
-    let mut add = |found: bool, row: &str| rows.extend(found.then(|| row.to_string()));
-    add(removed == 1, "fill over a place of its tag");
-    add(removed > 1, "fill over two places of its tag");
-    add(others == 4, "fill pushes a fifth place out");
-    let mut siblings = set
-        .places
-        .iter()
-        .filter(|p| p.filled(number) && p.tag != tag);
-    let sibling = siblings.any(|place| place.covers(tag << 12));
-    add(sibling, "fill leaves another piece of its large page");
-    let room = others == 3 && rubbish(set, number);
-    add(room, "fill where rubbish makes room for a fourth");
-    rewrite_rows("fill", number, set, |place| place.tag != tag, rows);
-}
-
-/// Adds what a root load met in all sets.
-fn root_rows(call: &Call, rows: &mut Vec<String>) {
-    let kept = |place: &Place| place.global != 0;
-    for (number, set) in (0..).zip(&call.before.cache.sets) {
-        rewrite_rows("root load", number, set, kept, rows);
-    }
-    let after = call.after.cache.sets.iter().flat_map(|set| &set.places);
-    let stay: Vec<&Place> = after.filter(|place| place.marked != 0).collect();
-    let sets = (0..).zip(&call.before.cache.sets);
-    let filled = sets.map(|(n, set)| set.places.iter().filter(|p| p.filled(n)).count());
-    let mut add = |found: bool, row: &str| rows.extend(found.then(|| format!("root load {row}")));
-    let pge = call.before.settings.global_pages();
-    add(!stay.is_empty(), "keeps a G place");
-    add(!stay.is_empty() && !pge, "keeps a G place at PGE = 0");
-    add(
-        stay.iter().any(|place| place.spare != 0),
-        "keeps a G place with spare bits",
-    );
-    add(filled.sum::<usize>() > stay.len(), "drops a place");
 }

@@ -67,6 +67,7 @@ fn raw_place(place: Place) -> raw::Place {
             + place.marked * raw::Place::MARKED
             + place.spare * SPARE,
         memory_type: place.memory_type,
+        number: place.number,
     }
 }
 
@@ -85,5 +86,6 @@ fn place(place: raw::Place) -> Place {
         global: flag(raw::Place::GLOBAL),
         spare: place.flags / SPARE,
         memory_type: place.memory_type,
+        number: place.number,
     }
 }

@@ -18,12 +18,13 @@ impl Settings {
     pub const PG: u64 = 1 << 31;
     pub const PAE: u64 = 1 << 5;
     pub const PGE: u64 = 1 << 7;
+    pub const PCIDE: u64 = 1 << 17;
     pub const LME: u64 = 1 << 8;
     pub const NXE: u64 = 1 << 11;
     /// The numbers of CR4's extension bits that are not served.
-    pub const EXTENSIONS: [u64; 7] = [12, 17, 20, 21, 22, 23, 24];
+    pub const EXTENSIONS: [u64; 6] = [12, 20, 21, 22, 23, 24];
     /// The same bits of CR4, which must be clear when paging is on.
-    pub const LEFT_OUT: u64 = 1 << 12 | 1 << 17 | 0x1F << 20;
+    pub const LEFT_OUT: u64 = 1 << 12 | 0x1F << 20;
 
     /// All registers 0 and M = 40.
     pub fn initial() -> Settings {
@@ -52,8 +53,17 @@ impl Settings {
         if self.paging() && !self.long_mode() {
             return Some(Answer::PAGING);
         }
-        let extended = self.cr4 & Settings::LEFT_OUT != 0;
-        (self.paging() && extended).then_some(Answer::EXTENSION)
+        if self.paging() && self.cr4 & Settings::LEFT_OUT != 0 {
+            return Some(Answer::EXTENSION);
+        }
+        (self.space_numbers() && !self.paging()).then_some(Answer::SPACES)
+    }
+
+    /// The number that refuses a start or a settings load, where the space numbers were on before it or not.
+    pub fn load_refusal(&self, numbered: bool) -> Option<u64> {
+        let turned_on = self.space_numbers() && !numbered;
+        let refused = turned_on && self.cr3 & 0xFFF != 0;
+        self.refusal().or(refused.then_some(Answer::SPACES))
     }
 
     /// Whether PE, PAE and LME are set.
@@ -78,9 +88,32 @@ impl Settings {
         self.cr4 & Settings::PGE != 0
     }
 
+    /// Whether the low bits of CR3 are a space number.
+    pub fn space_numbers(&self) -> bool {
+        self.cr4 & Settings::PCIDE != 0
+    }
+
+    /// The present space number.
+    pub fn number(&self) -> u64 {
+        if self.space_numbers() {
+            self.cr3 & 0xFFF
+        } else {
+            0
+        }
+    }
+
     /// Whether XD forbids fetches (else it is reserved).
     pub fn no_execute(&self) -> bool {
         self.efer & Settings::NXE != 0
+    }
+
+    /// The settings that a root load of the value leaves; with space numbers bit 63 is no part of CR3.
+    pub fn with_root(&self, value: u64) -> Settings {
+        let high = if self.space_numbers() { 1 << 63 } else { 0 };
+        Settings {
+            cr3: value & !high,
+            ..*self
+        }
     }
 
     /// The root: the base of the level 4 table.
@@ -121,7 +154,7 @@ mod tests {
             let cr4 = number(|settings| settings.cr4 ^= 1 << bit);
             let told = match bit {
                 5 => 9,
-                12 | 17 | 20..=24 => 10,
+                12 | 20..=24 => 10,
                 _ => 0,
             };
             assert_eq!(cr4, told, "CR4 bit {bit}");
@@ -149,7 +182,7 @@ mod tests {
     /// With paging off no other bit is tested.
     #[test]
     fn paging_off_tests_width_and_root_alone() {
-        for (cr4, efer) in [(u64::MAX, 0), (0, u64::MAX), (0, 0)] {
+        for (cr4, efer) in [(!Settings::PCIDE, 0), (0, u64::MAX), (0, 0)] {
             let told = number(|settings| {
                 (settings.cr0, settings.cr4, settings.efer) = (0, cr4, efer);
             });
@@ -180,5 +213,37 @@ mod tests {
             extended(settings);
         });
         assert_eq!(told, 9);
+    }
+
+    /// The space numbers want paging, and CR3 bits 11:0 clear where they are turned on.
+    #[test]
+    fn space_numbers_are_turned_on_with_care() {
+        let on = |cr3| Settings {
+            cr3,
+            cr4: 0x2_0020,
+            ..exercise()
+        };
+        assert_eq!((on(0x1000).number(), on(0x1FFF).number()), (0, 0xFFF));
+        assert_eq!(exercise().number(), 0);
+        for (cr3, numbered, told) in [
+            (0x1000, false, None),
+            (0x1001, false, Some(11)),
+            (0x1800, false, Some(11)),
+            (0x1001, true, None),
+        ] {
+            assert_eq!(on(cr3).refusal(), None);
+            assert_eq!(on(cr3).load_refusal(numbered), told);
+        }
+        let off = Settings {
+            cr0: 0,
+            ..on(0x1000)
+        };
+        assert_eq!(off.refusal(), Some(11));
+        assert_eq!(off.load_refusal(true), Some(11));
+        let extended = Settings {
+            cr4: 0x12_0020,
+            ..on(0x1001)
+        };
+        assert_eq!(extended.load_refusal(false), Some(10));
     }
 }

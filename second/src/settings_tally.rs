@@ -4,7 +4,7 @@ use crate::answer::Answer;
 use crate::settings::Settings;
 
 /// Rows of judged settings; bits that are wrong alone have rows of their own.
-const ROWS: [&str; 19] = [
+const ROWS: [&str; 21] = [
     "2 at PG = 0",
     "2 at PG = 1",
     "2 at M = 31",
@@ -17,7 +17,9 @@ const ROWS: [&str; 19] = [
     "8 at M = 52",
     "8 at CR3 = 2^M",
     "8 before 9",
+    "8 before 11",
     "9 before 10",
+    "11 at PG = 0",
     "served at M = 32",
     "served at M = 52",
     "served at CR3 = 2^M - 1",
@@ -25,23 +27,38 @@ const ROWS: [&str; 19] = [
     "served at PG = 0, else 10",
     "served at PG = 1",
 ];
+/// Rows where space numbers can be turned on.
+const TURNED_ON: [&str; 3] = ["10 before 11", "11 for turning on", "served for turning on"];
+/// Rows where space numbers can be on already.
+const ON: [&str; 1] = ["served with a space number not 0"];
 
 /// Every row of settings that one judges.
 pub fn expected(judge: &str) -> Vec<String> {
     let mut rows: Vec<String> = ROWS.map(String::from).into();
     rows.extend(["PE", "PAE", "LME"].map(|bit| format!("9 for {bit} alone")));
     rows.extend(Settings::EXTENSIONS.map(|bit| format!("10 for CR4 bit {bit} alone")));
+    if matches!(judge, "start" | "settings load") {
+        rows.extend(TURNED_ON.map(String::from));
+    }
+    if judge != "start" {
+        rows.extend(ON.map(String::from));
+    }
     rows.iter().map(|row| format!("{judge}: {row}")).collect()
 }
 
-/// The rows of settings that one judges.
-pub fn settings_rows(judge: &str, settings: &Settings) -> Vec<String> {
-    let rows = match settings.refusal() {
+/// The rows of settings that one judges; space numbers are turned on where they were not on before.
+pub fn settings_rows(judge: &str, settings: &Settings, numbered: bool) -> Vec<String> {
+    let turned_on = settings.space_numbers() && !numbered;
+    let rows = match settings.load_refusal(numbered) {
         Some(Answer::WIDTH) => width_rows(settings),
         Some(Answer::ROOT) => root_rows(settings),
         Some(Answer::PAGING) => paging_rows(settings),
-        Some(_) => extension_rows(settings),
-        None => served_rows(settings),
+        Some(Answer::EXTENSION) => extension_rows(settings, turned_on),
+        Some(_) => applying([
+            (!settings.paging(), "11 at PG = 0"),
+            (settings.paging(), "11 for turning on"),
+        ]),
+        None => served_rows(settings, turned_on),
     };
     rows.iter().map(|row| format!("{judge}: {row}")).collect()
 }
@@ -68,6 +85,7 @@ fn width_rows(settings: &Settings) -> Vec<String> {
 /// The rows of a root too large for the width.
 fn root_rows(settings: &Settings) -> Vec<String> {
     let missing = settings.paging() && !settings.long_mode();
+    let unpaged = settings.space_numbers() && !settings.paging();
     applying([
         (!settings.paging(), "8 at PG = 0"),
         (settings.paging(), "8 at PG = 1"),
@@ -75,6 +93,7 @@ fn root_rows(settings: &Settings) -> Vec<String> {
         (settings.width == 52, "8 at M = 52"),
         (settings.cr3 == 1 << settings.width, "8 at CR3 = 2^M"),
         (missing, "8 before 9"),
+        (unpaged, "8 before 11"),
     ])
 }
 
@@ -94,31 +113,30 @@ fn paging_rows(settings: &Settings) -> Vec<String> {
     ])
 }
 
-/// The row of the extension bit that is wrong alone.
-fn extension_rows(settings: &Settings) -> Vec<String> {
+/// The rows of an extension bit that is not served: of the one that is wrong alone, and of the order.
+fn extension_rows(settings: &Settings, turned_on: bool) -> Vec<String> {
     let wrong = settings.cr4 & Settings::LEFT_OUT;
-    let alone = Settings::EXTENSIONS
-        .into_iter()
-        .find(|bit| wrong == 1 << bit);
-    alone
-        .map(|bit| format!("10 for CR4 bit {bit} alone"))
-        .into_iter()
-        .collect()
+    let mut bits = Settings::EXTENSIONS.into_iter();
+    let alone = bits.find(|bit| wrong == 1 << bit);
+    let alone = alone.map(|bit| format!("10 for CR4 bit {bit} alone"));
+    let later = turned_on && settings.cr3 & 0xFFF != 0;
+    let mut rows = applying([(later, "10 before 11")]);
+    rows.extend(alone);
+    rows
 }
 
 /// The rows of settings that are served.
-fn served_rows(settings: &Settings) -> Vec<String> {
+fn served_rows(settings: &Settings, turned_on: bool) -> Vec<String> {
     let on = Settings {
         cr0: settings.cr0 | Settings::PG,
         ..*settings
     };
+    let last = (1 << settings.width) - 1;
+    let number = settings.number() != 0;
     applying([
         (settings.width == 32, "served at M = 32"),
         (settings.width == 52, "served at M = 52"),
-        (
-            settings.cr3 == (1 << settings.width) - 1,
-            "served at CR3 = 2^M - 1",
-        ),
+        (settings.cr3 == last, "served at CR3 = 2^M - 1"),
         (
             on.refusal() == Some(Answer::PAGING),
             "served at PG = 0, else 9",
@@ -128,5 +146,7 @@ fn served_rows(settings: &Settings) -> Vec<String> {
             "served at PG = 0, else 10",
         ),
         (settings.paging(), "served at PG = 1"),
+        (turned_on, "served for turning on"),
+        (number, "served with a space number not 0"),
     ])
 }

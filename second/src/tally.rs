@@ -72,7 +72,7 @@ impl Tally {
 
 /// Every row that a good draw of cases brings up.
 fn expected() -> Vec<String> {
-    let mut rows: Vec<String> = [0, 1, 2, 3, 4, 5, 8, 9, 10]
+    let mut rows: Vec<String> = [0, 1, 2, 3, 4, 5, 8, 9, 10, 11]
         .map(|number| format!("answer {number}"))
         .into();
     for size in 1..=3 {
@@ -119,7 +119,7 @@ pub fn rows(case: &Case, memory: &[u8], answer: &Answer) -> Vec<String> {
     let mut rows = vec![format!("answer {}", answer.answer)];
     let settings = &case.settings;
     if answer.answer != Answer::UNKNOWN {
-        rows.extend(settings_rows("walk", settings));
+        rows.extend(settings_rows("walk", settings, true));
     }
     match answer.answer {
         Answer::UNKNOWN => {

@@ -1,12 +1,15 @@
-//! The product's starts and steps beside this program's on handmade machines: any places, any settings, any memory.
+//! The product's starts, steps and INVPCID beside this program's on handmade machines: any places, any settings, any memory.
 
-use aalbrett_raw::{start, step};
+use aalbrett_raw::{invpcid, start, step};
+use second::compare_invpcid::invpcids;
 use second::compare_machines::machines;
 use second::compare_starts::starts;
 use second::seed::{met, seed};
 
 /// The machines started.
 const STARTS: u64 = 25_000;
+/// The machines of which INVPCID is called, six times each.
+const INVPCIDS: u64 = 25_000;
 /// The machines drawn; each is stepped by eight cards.
 const MACHINES: u64 = 25_000;
 
@@ -14,6 +17,12 @@ const MACHINES: u64 = 25_000;
 #[test]
 fn the_products_starts_agree() {
     met(&starts(seed(), STARTS, start));
+}
+
+/// Numbers, whole records and buffers are the same after every INVPCID, and every rule was met.
+#[test]
+fn the_products_invpcid_agrees() {
+    met(&invpcids(seed(), INVPCIDS, invpcid));
 }
 
 /// Numbers, whole records, buffers and memory are the same after every card, and every rule was met.

@@ -2,12 +2,12 @@
 use Prim.Native.Nat.{ℕ}
 use mathlib.Core.Path.{_≡_, refl}
 use mathlib.Core.Bool.{Bool, true, false, not, cond, false≢true}
-use mathlib.Core.List.{List}
+use mathlib.Core.List.{List, []}
 use lib.Dec.{eqb}
 use Rattle.settings.specs.declared.Settings.{Settings}
 use Rattle.settings.specs.declared.Service.{Service}
 use Rattle.settings.specs.declared.Service.the-variants.{Served, NotServed}
-use Rattle.settings.specs.Settings.{initial, judged}
+use Rattle.settings.specs.Settings.{initial, judgedFrom}
 use Rattle.address.specs.declared.VirtAddr.{VirtAddr}
 use Rattle.walk.specs.declared.Way.{Way}
 use Rattle.walk.specs.declared.Asked.{Asked}
@@ -20,11 +20,13 @@ use Rattle.walk.specs.Translate.{asked, answered, fresh, freshMemory, translate
 use Rattle.walk.specs.Walk.{after, walkPath, walkAnswer}
 use Rattle.cache.specs.Whole.{emptyCache}
 use Rattle.machine.specs.declared.Machine.{Machine}
-use Rattle.machine.specs.Calls.{loadAnswer, ifServed}
+use Rattle.machine.specs.declared.Call.the-variants as Call
+use Rattle.machine.specs.Calls.{loadAnswer, ifServed, initialMachine, invalidated, step}
+use Rattle.machine.proofs.Demand1 as machine
 use Rattle.card.specs.Card.{stepped}
 use Rattle.card.proofs.Demand1 as cards
 use Rattle.aalbrett.specs.Host.{short, registers}
-use Rattle.aalbrett.specs.Demand1.{Demand1, WalkRefused, WalkShort, StepRefused, StartRefused}
+use Rattle.aalbrett.specs.Demand1.{Demand1, WalkRefused, WalkShort, StepRefused, StartRefused, InvpcidRefused}
 
 -- an uncached translation that is refused leaves memory as it was
 walked-bytes : (s : Settings) (address : VirtAddr) (a : Way) (write : Bool) (p : Path) (memory : List ℕ) (w : Walked)
@@ -69,12 +71,27 @@ step-refused m memory card buffer = record { when-short = λ h. (rw h, rw h, rw 
     go false h = cards.demand1 m memory card h .bytes
 
 start-refused : StartRefused
-start-refused s = go (judged s)
+start-refused s = go (judgedFrom initial s)
   where
     go : (x : Service) → not (eqb (numbers (loadAnswer x) .answer) 0) ≡ true
-        → _≡_ {A = Machine} (record { settings = ifServed x s initial; cache = emptyCache }) (record { settings = initial; cache = emptyCache })
+        → ifServed x (record { settings = s; cache = emptyCache }) initialMachine ≡ initialMachine
     go Served h = absurd (false≢true h)
     go (NotServed why) h = refl
 
+-- INVPCID that is refused by the rules leaves the machine
+invpcid-unmoved : (m : Machine) (kind number : ℕ) (address : VirtAddr) → not (eqb (numbers (invalidated m kind number address .answer) .answer) 0) ≡ true
+    → invalidated m kind number address .machine ≡ m
+unfolding step
+invpcid-unmoved m kind number address h = machine.demand1 m [] (Call.Invpcid kind number address) h .otherwise refl
+
+invpcid-refused : (m : Machine) (kind number address : ℕ) (buffer : List ℕ) → InvpcidRefused m kind number address buffer
+invpcid-refused m kind number address buffer = record { when-short = λ h. (rw h, rw h); unmoved = go (short buffer) }
+  where
+    go : (b : Bool) → not (eqb (cond b 7 (numbers (invalidated m kind number (record { 0 = address }) .answer) .answer)) 0) ≡ true
+        → cond b m (invalidated m kind number (record { 0 = address }) .machine) ≡ m
+    go true h = refl
+    go false h = invpcid-unmoved m kind number (record { 0 = address }) h
+
 pub demand1 : Demand1
-demand1 = record { walk = walk-refused; walk-short = walk-short; step = step-refused; start = start-refused }
+demand1 =
+    record { walk = walk-refused; walk-short = walk-short; step = step-refused; start = start-refused; invpcid = invpcid-refused }

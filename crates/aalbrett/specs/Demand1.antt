@@ -5,12 +5,10 @@ use mathlib.Core.Bool.{true, not}
 use mathlib.Core.List.{List}
 use lib.Dec.{eqb}
 use Rattle.settings.specs.declared.Settings.{Settings}
-use Rattle.settings.specs.Settings.{initial}
-use Rattle.cache.specs.Whole.{emptyCache}
 use Rattle.machine.specs.declared.Machine.{Machine}
-use Rattle.machine.specs.Calls.{started}
+use Rattle.machine.specs.Calls.{initialMachine, started, invalidated}
 use Rattle.aalbrett.specs.Host.{short, result, memoryAfter, bufferAfter}
-use Rattle.aalbrett.specs.Lent.{startNumber, stepNumber, machineAfter}
+use Rattle.aalbrett.specs.Lent.{startNumber, stepNumber, machineAfter, callNumber, machineCalled, bufferCalled}
 use Rattle.aalbrett.specs.Lent as lent
 
 -- the uncached walk: any refusal keeps every guest byte
@@ -40,7 +38,15 @@ pub record StepRefused (m : Machine) (memory card buffer : List ℕ) : Type 0 wh
 -- "A refused start gives" its number "and an empty cache with all registers 0 and M = 40."
 abbrev pub StartRefused : Type 0
 StartRefused =
-    (s : Settings) → not (eqb (startNumber s) 0) ≡ true → started s .machine ≡ record { settings = initial; cache = emptyCache }
+    (s : Settings) → not (eqb (startNumber s) 0) ≡ true → started s .machine ≡ initialMachine
+
+-- INVPCID: any refusal leaves the machine, and a short buffer is left too
+pub record InvpcidRefused (m : Machine) (kind number address : ℕ) (buffer : List ℕ) : Type 0 where
+  pub when-short : short buffer ≡ true
+      → (callNumber m (invalidated m kind number (record { 0 = address })) buffer ≡ 7)
+      × (bufferCalled m (invalidated m kind number (record { 0 = address })) buffer ≡ buffer)
+  pub unmoved : not (eqb (callNumber m (invalidated m kind number (record { 0 = address })) buffer) 0) ≡ true
+      → machineCalled m (invalidated m kind number (record { 0 = address })) buffer ≡ m
 
 -- the demand for the host's calls
 pub record Demand1 : Type 0 where
@@ -48,3 +54,4 @@ pub record Demand1 : Type 0 where
   pub walk-short : WalkShort
   pub step : (m : Machine) (memory card buffer : List ℕ) → StepRefused m memory card buffer
   pub start : StartRefused
+  pub invpcid : (m : Machine) (kind number address : ℕ) (buffer : List ℕ) → InvpcidRefused m kind number address buffer

@@ -7,11 +7,12 @@ use settings::Settings;
 use walk::translate::numbers;
 use walk::translate::translate;
 ghost use mathlib.Core.Path.{_≡_};
+ghost use Rattle.machine.specs.Calls.{invalidated};
 ghost use Rattle.aalbrett.specs.Host as spec;
 ghost use Rattle.aalbrett.specs.Lent as after;
 
 mod buffer;
-mod start;
+mod value;
 
 // The number answered where the answer buffer is short.
 const SHORT: u64 = 7;
@@ -49,7 +50,7 @@ pub extern "C" fn aalbrett_walk(
     told.answer
 }
 
-// Starts a machine that the host lends: gives 0, or 2, 8, 9 or 10 where the settings are not served.
+// Starts a machine that the host lends: gives 0, or 2, 8, 9, 10 or 11 where the settings are not served.
 #[no_mangle]
 pub extern "C" fn aalbrett_start(
     machine: &mut Machine,
@@ -61,7 +62,7 @@ pub extern "C" fn aalbrett_start(
 ) -> u64
     ensures { λ r. ⌜ after.Starts (spec.registers cr0 cr3 cr4 efer width) r (now (machine .exit)) ⌝ }
 {
-    let begun = start::start(cr0, cr3, cr4, efer, width);
+    let begun = value::start(cr0, cr3, cr4, efer, width);
     *machine = begun.machine;
     begun.number
 }
@@ -83,4 +84,21 @@ pub extern "C" fn aalbrett_step(
     let told = step(machine, memory, card);
     write(answer, told);
     told.answer
+}
+
+// INVPCID on a machine that the host lends: gives the answer's number, and writes its five numbers to the buffer.
+#[no_mangle]
+pub extern "C" fn aalbrett_invpcid(
+    machine: &mut Machine,
+    kind: u64,
+    number: u64,
+    address: u64,
+    answer: &mut [u8],
+) -> u64
+    ensures { λ r. ⌜ after.Calls (now (machine .entry)) (invalidated (now (machine .entry)) kind number (record { 0 = address }))
+        (now (answer .entry)) r (now (machine .exit)) (now (answer .exit)) ⌝ }
+{
+    let called = value::invpcid(*machine, kind, number, address, answer);
+    *machine = called.machine;
+    called.number
 }

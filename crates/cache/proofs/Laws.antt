@@ -3,9 +3,9 @@ use Prim.Native.Nat.{ℕ, _*_, _/_, _^_, _<_, _≤_}
 use native.Mathlib.Decide.{decLt}
 use native.Mathlib.Omega.{arith}
 use mathlib.Core.Path.{_≡_, refl, sym, ap, _∙_}
-use mathlib.Core.Bool.{Bool, true, false, not, _&&_}
+use mathlib.Core.Bool.{Bool, true, false, not, _&&_, _||_, false≢true}
 use mathlib.Core.List.{List, [], _∷_}
-use borrow.Author.Tests.{ltb-true, leb-true, eqb-true, lt-ltb, le-leb, eq-eqb, ne-eqb}
+use borrow.Author.Tests.{ltb-true, leb-true, eqb-true, eqb-false, not-true, lt-ltb, le-leb, eq-eqb, ne-eqb}
 use lib.Dec.{eqb, ltb, leb}
 use lib.ListN.{length, take, length-set, getD-replicate, List·getD-eq-default}
 use lib.Seq.{take-all, getD-set-same, getD-set-other}
@@ -16,7 +16,7 @@ use Rattle.cache.specs.declared.Set.{Set}
 use Rattle.cache.specs.declared.Cache.{Cache}
 use Rattle.cache.specs.declared.Wanted.{Wanted}
 use Rattle.cache.specs.declared.Found.{Found}
-use Rattle.cache.specs.Places.{isMarked, zeroPlace, setIndex, filledIn, Key, pageBytes, covers, left, otherTag, spares, serves}
+use Rattle.cache.specs.Places.{isMarked, hasG, zeroPlace, setIndex, filledIn, Key, keyOf, mine, pageBytes, covers, left, otherTag, spares, serves}
 use Rattle.cache.specs.Sets.{keep, four, setOf, emptySet, filled, firstServing, findIn, fillSet, dropSet}
 use Rattle.cache.specs.Whole.{setAt, held, rewriteSet, rewriteAll, emptyCache, fillCache, dropCache}
 use Rattle.cache.proofs.Steps.{setsBelow-length, setsBelow-at}
@@ -33,6 +33,7 @@ pub record Filled (i : ℕ) (p : Place) : Type 0 where
   pub size-from : 1 ≤ p .size
   pub size-to : p .size ≤ 3
   pub type-below : p .memoryType < 8
+  pub number-to : p .number ≤ 4095
 
 pub filled-has : (i : ℕ) (p : Place) → filledIn i p ≡ true → Filled i p
 unfolding filledIn
@@ -43,6 +44,7 @@ filled-has i p h =
     let d = and-true (ltb (p .frame .0) (2 ^ 40)) _ (b .1) in
     let f = and-true (leb 1 (p .size) && leb (p .size) 3) _ (d .1) in
     let e = and-true (leb 1 (p .size)) _ (f .0) in
+    let g = and-true (ltb (p .memoryType) 8) _ (f .1) in
     record {
       is-marked = a .0;
       tag-below = ltb-true (p .tag) (2 ^ 52) (c .0);
@@ -50,7 +52,8 @@ filled-has i p h =
       frame-below = ltb-true (p .frame .0) (2 ^ 40) (d .0);
       size-from = leb-true 1 (p .size) (e .0);
       size-to = leb-true (p .size) 3 (e .1);
-      type-below = ltb-true (p .memoryType) 8 (f .1);
+      type-below = ltb-true (p .memoryType) 8 (g .0);
+      number-to = leb-true (p .number) 4095 (g .1);
     }
 
 pub has-filled : (i : ℕ) (p : Place) → Filled i p → filledIn i p ≡ true
@@ -64,6 +67,7 @@ has-filled i p h =
       le-leb 1 (p .size) (h .size-from),
       le-leb (p .size) 3 (h .size-to),
       lt-ltb (p .memoryType) 8 (h .type-below),
+      le-leb (p .number) 4095 (h .number-to),
     )
 
 -- zeros are not filled
@@ -103,38 +107,58 @@ covers-4-kib k t not-2 not-3 = rw (ne-eqb (k .size) 2 not-2, ne-eqb (k .size) 3 
 pub own-covered : (k : Key) → covers k (k .tag) ≡ true
 own-covered k = eq-eqb (k .tag * 4096 / pageBytes (k .size)) _ refl
 
--- a fill takes the places of its tag, and no other
-pub fill-takes : (new p : Place) → p .tag ≡ new .tag → spares new p ≡ false
+-- a fill whose place is G or of a number leaves no other place of its tag that is
+pub fill-takes : (n : ℕ) (new p : Place) → p .tag ≡ new .tag → mine n (keyOf new) ≡ true → spares new p ≡ true → mine n (keyOf p) ≡ false
 unfolding spares
-fill-takes new p e = tag-same (new .tag) p e
+fill-takes n new p same own spared = go (hasG new) (hasG p) own (rw (tag-same (new .tag) p same) at spared)
+  where
+    go : (g h : Bool) → (g || eqb (new .number) n) ≡ true → (not g && not (h || eqb (p .number) (new .number))) ≡ true → (h || eqb (p .number) n) ≡ false
+    go true h own spared = absurd (false≢true spared)
+    go false true own spared = absurd (false≢true spared)
+    go false false own spared =
+        ne-eqb (p .number) n (λ e. eqb-false (p .number) (new .number) (not-true (eqb (p .number) (new .number)) spared) (e ∙ sym (eqb-true (new .number) n own)))
 
+-- what it leaves is of another tag or number
+pub fill-other : (new p : Place) → spares new p ≡ true → (eqb (p .tag) (new .tag) && eqb (p .number) (new .number)) ≡ false
+unfolding spares otherTag
+fill-other new p spared = go (eqb (p .tag) (new .tag)) (hasG new) (hasG p) spared
+  where
+    go : (t g h : Bool) → (not t || (not g && not (h || eqb (p .number) (new .number)))) ≡ true → (t && eqb (p .number) (new .number)) ≡ false
+    go false g h spared = refl
+    go true true h spared = absurd (false≢true spared)
+    go true false true spared = absurd (false≢true spared)
+    go true false false spared = not-true (eqb (p .number) (new .number)) spared
+
+-- a fill leaves every place of another tag
 pub fill-leaves : (new p : Place) → (p .tag ≡ new .tag → ⊥) → spares new p ≡ true
 unfolding spares
-fill-leaves new p e = tag-other (new .tag) p e
+fill-leaves new p e = rw (tag-other (new .tag) p e)
 
 -- what a place that serves has
 pub record Serves (w : Wanted) (p : Place) : Type 0 where
   pub same-tag : p .tag ≡ w .tag
   pub has-flags : includes (w .flags) (p .flags) ≡ true
+  pub is-mine : mine (w .number) (keyOf p) ≡ true
 
 pub serves-has : (w : Wanted) (p : Place) → serves w p ≡ true → Serves w p
 unfolding serves
 serves-has w p h =
-    let a = and-true (eqb (p .tag) (w .tag)) _ h in
-    record { same-tag = eqb-true (p .tag) (w .tag) (a .0); has-flags = a .1 }
+    let b = and-true (eqb (p .tag) (w .tag) && includes (w .flags) (p .flags)) _ h in
+    let a = and-true (eqb (p .tag) (w .tag)) _ (b .0) in
+    record { same-tag = eqb-true (p .tag) (w .tag) (a .0); has-flags = a .1; is-mine = b .1 }
 
 pub has-serves : (w : Wanted) (p : Place) → Serves w p → serves w p ≡ true
 unfolding serves
-has-serves w p h = rw (eq-eqb (p .tag) (w .tag) (h .same-tag), h .has-flags)
+has-serves w p h = rw (eq-eqb (p .tag) (w .tag) (h .same-tag), h .has-flags, h .is-mine)
 
 -- a place of another tag does not serve
 pub other-serves-not : (w : Wanted) (p : Place) → otherTag (w .tag) p ≡ true → not (serves w p) ≡ true
 unfolding otherTag serves
-other-serves-not w p h = go (eqb (p .tag) (w .tag)) _ h
+other-serves-not w p h = go (eqb (p .tag) (w .tag)) _ _ h
   where
-    go : (b rest : Bool) → not b ≡ true → not (b && rest) ≡ true
-    go true rest e = cc
-    go false rest e = refl
+    go : (b flags mine : Bool) → not b ≡ true → not ((b && flags) && mine) ≡ true
+    go true flags mine e = cc
+    go false flags mine e = refl
 
 -- One set.
 

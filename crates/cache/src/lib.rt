@@ -13,6 +13,7 @@ pub struct Place {
     pub size: u8,
     pub flags: u8,
     pub memoryType: u8,
+    pub number: u16,
 }
 
 // Four places, the one filled last in front.
@@ -27,16 +28,21 @@ pub struct Cache {
     pub sets: [Set; 16],
 }
 
-// What a translation wants of a place: its tag, and the flags that it must have.
+// What a translation wants of a place: its tag, the flags that it must have, and the present space number.
 pub struct Wanted {
     pub tag: u64,
     pub flags: u8,
+    pub number: u16,
 }
 
-// What a drop takes: each place whose own page contains a page, by its tag; or all but G places.
+// What a drop takes: each place whose own page contains a page, by its tag, of a space number and G, or of the number alone; a number's without G; all without G; all; none.
 pub enum Drop {
-    Page(u64),
+    Page(u64, u16),
+    Piece(u64, u16),
+    Number(u16),
     Local,
+    All,
+    Nothing,
 }
 
 // What a lookup finds.

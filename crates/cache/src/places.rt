@@ -36,6 +36,7 @@ impl Place {
             size: 0,
             flags: 0,
             memoryType: 0,
+            number: 0,
         }
     }
 
@@ -46,7 +47,7 @@ impl Place {
         let own = Cache::set_of(self.tag);
         let tag = (self.tag < 0x10_0000_0000_0000) & (own == set);
         let size = (1 <= self.size) & (self.size <= 3);
-        let page = size & (self.memoryType < 8);
+        let page = size & ((self.memoryType < 8) & (self.number <= 4095));
         (self.flags / Place::MARKED % 2 == 1) & (tag & ((self.frame.0 < 0x100_0000_0000) & page))
     }
 
@@ -63,27 +64,66 @@ impl Place {
         self.tag == tag
     }
 
+    // Whether the place is G.
+    fn global(self) -> bool
+        ensures { λ r. ⌜ r ≡ spec.hasG self ⌝ }
+    {
+        self.flags / Place::GLOBAL % 2 == 1
+    }
+
+    // Whether the place is G or of a space number.
+    fn mine(self, number: u16) -> bool
+        ensures { λ r. ⌜ r ≡ spec.mine number (spec.keyOf self) ⌝ }
+    {
+        if self.number == number {
+            return true;
+        }
+        self.global()
+    }
+
+    // Whether the place is of a space number, and not G.
+    fn mine_alone(self, number: u16) -> bool
+        ensures { λ r. ⌜ r ≡ spec.mineAlone number (spec.keyOf self) ⌝ }
+    {
+        let global = self.global();
+        !global & (self.number == number)
+    }
+
+    // Whether a drop takes the place.
+    fn taken_by(self, drop: Drop) -> bool
+        ensures { λ r. ⌜ r ≡ spec.takes drop (spec.keyOf self) ⌝ }
+    {
+        match drop {
+            Drop::Page(tag, number) => self.covers(tag) & self.mine(number),
+            Drop::Piece(tag, number) => self.covers(tag) & self.mine_alone(number),
+            Drop::Number(number) => self.mine_alone(number),
+            Drop::Local => !self.global(),
+            Drop::All => true,
+            Drop::Nothing => false,
+        }
+    }
+
     // Whether a drop leaves the place.
     pub fn left_by(self, drop: Drop) -> bool
         ensures { λ r. ⌜ r ≡ spec.left drop self ⌝ }
     {
-        match drop {
-            Drop::Page(tag) => !self.covers(tag),
-            Drop::Local => self.flags / Place::GLOBAL % 2 == 1,
-        }
+        !self.taken_by(drop)
     }
 
     // Whether a fill of a new place leaves this one.
     pub fn spared_by(self, new: Place) -> bool
         ensures { λ r. ⌜ r ≡ spec.spares new self ⌝ }
     {
-        self.tag != new.tag
+        let global = new.global();
+        let mine = self.mine(new.number);
+        !(self.tag == new.tag) | (!global & !mine)
     }
 
     // Whether the place has all that a translation wants.
     pub fn serves(self, wanted: Wanted) -> bool
         ensures { λ r. ⌜ r ≡ spec.serves wanted self ⌝ }
     {
-        (self.tag == wanted.tag) & (wanted.flags & self.flags == wanted.flags)
+        let page = (self.tag == wanted.tag) & (wanted.flags & self.flags == wanted.flags);
+        page & self.mine(wanted.number)
     }
 }

@@ -42,6 +42,7 @@ OwnSet i (Decoded.Call (Call.LoadRoot v)) = Unit {0}
 OwnSet i (Decoded.Call (Call.LoadSettings a b e w)) = Unit {0}
 OwnSet i (Decoded.Call (Call.DropPage at)) = Unit {0}
 OwnSet i (Decoded.Call Call.DropAll) = Unit {0}
+OwnSet i (Decoded.Call (Call.Invpcid k n at)) = Unit {0}
 OwnSet i (Decoded.Refused n) = Unit {0}
 
 own-cond : (i : ℕ) (b : Bool) (x y : Decoded) → OwnSet i x → OwnSet i y → OwnSet i (cond b x y)
@@ -80,6 +81,7 @@ module _ (m : Machine) (memory : List ℕ) where
   seen-turned i (Decoded.Call (Call.LoadSettings a b e w)) own h = cc
   seen-turned i (Decoded.Call (Call.DropPage at)) own h = cc
   seen-turned i (Decoded.Call Call.DropAll) own h = cc
+  seen-turned i (Decoded.Call (Call.Invpcid k n at)) own h = cc
   seen-turned i (Decoded.Refused n) own h = cc
 
   -- a card that is answered: its numbers are the step's, and machine and memory stay

@@ -20,7 +20,7 @@ dropsByCard m memory (Decoded.Refused number) = false
 
 -- what a refused card leaves of a set's places
 abbrev pub leavesByCard : Machine → List ℕ → Decoded → List Place → List Place
-leavesByCard m memory (Decoded.Call call) places = leaves call (step m memory call .answer) places
+leavesByCard m memory (Decoded.Call call) places = leaves (m .settings) call (step m memory call .answer) places
 leavesByCard m memory (Decoded.Refused number) places = places
 
 -- a refused card: its number; every guest byte and the settings as before; the filled places of every set, and the whole machine where no page is dropped

@@ -36,6 +36,7 @@ seenCall s set (Call.LoadRoot value) = unseen
 seenCall s set (Call.LoadSettings cr0 cr4 efer width) = unseen
 seenCall s set (Call.DropPage address) = unseen
 seenCall s set Call.DropAll = unseen
+seenCall s set (Call.Invpcid kind number address) = unseen
 
 -- the same of what a card says
 abbrev pub seenDecoded : Settings → Set → Decoded → Seen

@@ -65,6 +65,7 @@ fn look_call(settings: Settings, set: Set, call: Call) -> Seen
         Call::LoadSettings(_, _, _, _) => unseen(),
         Call::DropPage(_) => unseen(),
         Call::DropAll => unseen(),
+        Call::Invpcid(_, _, _) => unseen(),
     }
 }
 

@@ -12,7 +12,7 @@ use Rattle.walk.specs.Walk.{walkAnswer, walkMemory}
 use Rattle.walk.specs.Translate.{answered, translated, translatedMemory}
 use Rattle.cache.specs.declared.Found.the-variants as Found
 use Rattle.cache.specs.declared.Place.{Place}
-use Rattle.cache.specs.Places.{setIndex, serves}
+use Rattle.cache.specs.Places.{keyOf, mine, setIndex, serves}
 use Rattle.cache.specs.Whole.{held}
 use Rattle.cache.proofs.Laws.{findCache, find-cache, serves-has}
 use Rattle.cache.proofs.Lists.{first-serves}
@@ -22,7 +22,7 @@ use Rattle.machine.specs.Remember.{wanted, hit}
 use Rattle.machine.specs.Calls.{Result}
 use Rattle.machine.specs.Series.{Stand, gives, run, start}
 use Rattle.machine.specs.History.{Latest, none, walk, latest}
-use Rattle.machine.specs.Demand3.{Premise, AsFresh, withoutReads, walks, FirstHalf, AnyWalk}
+use Rattle.machine.specs.Demand3.{presentNumber, Premise, AsFresh, withoutReads, walks, FirstHalf, AnyWalk}
 use Rattle.machine.proofs.Lists.{has-member}
 use Rattle.machine.proofs.Hits.{hit-fresh}
 use Rattle.machine.proofs.Translations.{Goes, quiet, hits, fills, goes}
@@ -30,14 +30,14 @@ use Rattle.machine.proofs.Translations as Ways
 use Rattle.machine.proofs.Sound.{Backed, Own, Sound}
 use Rattle.machine.proofs.First.{after-series, start-sound}
 
-module _ (now : Stand) (size : ℕ) (w : Latest) (address : VirtAddr) (access mode : ℕ) (sound : Sound (tag address) size now w) (premise : Premise now w) where
+module _ (now : Stand) (size : ℕ) (w : Latest) (address : VirtAddr) (access mode : ℕ) (sound : Sound (tag address) (presentNumber now) size now w) (premise : Premise now w) where
   abbrev s : Settings
   s = now .machine .settings
 
   -- a hit under the premise
   fresh-hit : (a : Way) (p : Place) → findCache (wanted s address a) (now .machine .cache) ≡ Found.At p
       → (withoutReads (hit address p) ≡ withoutReads (answered s address a (walkAnswer s address a (now .memory)))) × (now .memory ≡ walkMemory s address a (now .memory))
-  fresh-hit a p found = go w premise (has-member (Own (tag address) s size w) (member .0) (sound .backed) same)
+  fresh-hit a p found = go w premise (has-member (Own (tag address) (presentNumber now) s size w) (member .0) (sound .backed) same own-number)
     where
       member : List·Memᴰ p (held (setIndex (tag address)) (now .machine .cache)) × (serves (wanted s address a) p ≡ true)
       member =
@@ -46,6 +46,9 @@ module _ (now : Stand) (size : ℕ) (w : Latest) (address : VirtAddr) (access mo
 
       same : p .tag ≡ tag address
       same = serves-has (wanted s address a) p (member .1) .same-tag
+
+      own-number : mine (presentNumber now) (keyOf p) ≡ true
+      own-number = serves-has (wanted s address a) p (member .1) .is-mine
 
       go : (v : Latest) → Premise now v → Backed s size v p
           → (withoutReads (hit address p) ≡ withoutReads (answered s address a (walkAnswer s address a (now .memory)))) × (now .memory ≡ walkMemory s address a (now .memory))
@@ -68,8 +71,9 @@ module _ (now : Stand) (size : ℕ) (w : Latest) (address : VirtAddr) (access mo
 -- the first half
 pub first-half : FirstHalf
 first-half s memory series address access mode premise =
-    as-fresh (run (start s memory) series) (length memory) (latest (tag address) (start s memory) series none) address access mode
-    (after-series (tag address) (length memory) (start s memory) none (start-sound (tag address) s memory) series)
+    let n = presentNumber (run (start s memory) series) in
+    as-fresh (run (start s memory) series) (length memory) (latest (tag address) n (start s memory) series none) address access mode
+    (after-series (tag address) n (length memory) (start s memory) none (start-sound (tag address) n s memory) series)
     premise
     (goes (run (start s memory) series .machine) (run (start s memory) series .memory) address access mode)
 

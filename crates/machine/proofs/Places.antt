@@ -4,10 +4,11 @@ use native.Mathlib.Omega.{arith}
 use mathlib.Core.Path.{_≡_, refl, sym, ap, subst, _∙_}
 use mathlib.Core.Bool.{Bool, true, false, not, _&&_, _||_, cond}
 use mathlib.Core.List.{List}
-use lib.Dec.{lit<}
+use borrow.Author.Tests.{eq-eqb}
+use lib.Dec.{eqb, lit<, lit≤}
 use Rattle.word.specs.Bits.{bit, includes}
 use Rattle.settings.specs.declared.Settings.{Settings}
-use Rattle.settings.specs.Settings.{nxe, pge, root}
+use Rattle.settings.specs.Settings.{nxe, pge, pcide, root, spaceNumber}
 use Rattle.address.specs.declared.VirtAddr.{VirtAddr}
 use Rattle.address.specs.Address.{tag, canonical}
 use Rattle.entry.specs.Memory.{pat, memoryType}
@@ -41,9 +42,10 @@ pub root-aligned : (s : Settings) → root s .0 % 8 ≡ 0
 root-aligned s = omega arith
 
 -- the same is wanted of a place at every address of its page
-pub wanted-same : (s s′ : Settings) (first later : VirtAddr) (a : Way) → Alike s s′ → tag first ≡ tag later → wanted s first a ≡ wanted s′ later a
-wanted-same s s′ first later a alike same =
-    λ i. record { tag = same i; flags = withDirty (number (writes a && (a .user || bit (alike .cr0-same i) 16)) (a .user) (fetches a)) (writes a) }
+pub wanted-same : (s s′ : Settings) (first later : VirtAddr) (a : Way) → Alike s s′ → tag first ≡ tag later → spaceNumber s ≡ spaceNumber s′
+    → wanted s first a ≡ wanted s′ later a
+wanted-same s s′ first later a alike same one-number =
+    λ i. record { tag = same i; flags = withDirty (number (writes a && (a .user || bit (alike .cr0-same i) 16)) (a .user) (fetches a)) (writes a); number = one-number i }
 
 -- a memory type index is below 8
 type-small : (level v : ℕ) → memoryType level v < 8
@@ -58,6 +60,19 @@ type-small level v = go (pat level v) (bit v 4) (bit v 3)
     go false true false = lit< tt
     go false false true = lit< tt
     go false false false = lit< tt
+
+-- a space number is at most 4,095
+number-small : (s : Settings) → spaceNumber s ≤ 4095
+number-small s = go (pcide s)
+  where
+    go : (b : Bool) → cond b (s .cr3 % 4096) 0 ≤ 4095
+    go true = omega arith
+    go false = lit≤ tt
+
+-- a place is of its own number
+own-number : (g : Bool) (n : ℕ) → (g || eqb n n) ≡ true
+own-number true n = refl
+own-number false n = eq-eqb n n refl
 
 -- A success and its place.
 module _ (s : Settings) (va : VirtAddr) (a : Way) (m : List ℕ) (found : Mapping) (h : walkAnswer s va a m ≡ Mapped found) where
@@ -98,6 +113,7 @@ module _ (s : Settings) (va : VirtAddr) (a : Way) (m : List ℕ) (found : Mappin
         size-from = its-ending .level-from;
         size-to = its-ending .level-to;
         type-below = type-small (its .last .level) (its .last .value);
+        number-to = number-small s;
       }))
 
   -- the rights of all its entries, one by one
@@ -111,10 +127,12 @@ module _ (s : Settings) (va : VirtAddr) (a : Way) (m : List ℕ) (found : Mappin
   all-fetch = every (λ (v : ℕ). not (bit v 63)) (entries its-path)
 
   -- a success's place serves the same access at any address of the page
-  pub found-serves : (s′ : Settings) (later : VirtAddr) → Alike s s′ → tag va ≡ tag later → serves (wanted s′ later a) (placeOf s va a found) ≡ true
-  found-serves s′ later alike same =
-      rw (← (wanted-same s s′ va later a alike same))
-      (has-serves (wanted s va a) (placeOf s va a found) (record { same-tag = refl; has-flags = its-flags }))
+  pub found-serves : (s′ : Settings) (later : VirtAddr) → Alike s s′ → tag va ≡ tag later → spaceNumber s ≡ spaceNumber s′
+      → serves (wanted s′ later a) (placeOf s va a found) ≡ true
+  found-serves s′ later alike same one-number =
+      rw (← (wanted-same s s′ va later a alike same one-number))
+      (has-serves (wanted s va a) (placeOf s va a found)
+      (record { same-tag = refl; has-flags = its-flags; is-mine = own-number (hasG (placeOf s va a found)) (spaceNumber s) }))
     where
       each : (given (needsWrite s a) all-write ≡ true) × (given (a .user) all-user ≡ true) × (given (fetches a) all-fetch ≡ true)
       each =
@@ -138,7 +156,7 @@ module _ (s : Settings) (va : VirtAddr) (a : Way) (m : List ℕ) (found : Mappin
   -- its key is that of the walk
   pub found-key : (left : List ℕ) → keyOf (placeOf s va a found) ≡ walkOf s va m left .key
   found-key left =
-      (λ i. record { tag = tag va; size = its .is-found i .size; global = its-global i }) ∙ ap (keyAt s va) (sym (its .at-end))
+      (λ i. record { tag = tag va; size = its .is-found i .size; number = spaceNumber s; global = its-global i }) ∙ ap (keyAt s va) (sym (its .at-end))
     where
       its-global : hasG (placeOf s va a found) ≡ (bit (its .last .value) 8 && pge s)
       its-global =

@@ -30,7 +30,7 @@ use Rattle.machine.specs.Calls.{Result, step, withCache}
 use Rattle.machine.specs.Calls as Calls
 use Rattle.machine.specs.Series.{Event, Stand, gives, run, start}
 use Rattle.machine.specs.History.{Walk, none, walkOf, succeeded, drops}
-use Rattle.machine.specs.Demand3.{others, Between, again, SecondHalf}
+use Rattle.machine.specs.Demand3.{others, presentNumber, Numbered, Between, again, SecondHalf}
 use Rattle.machine.proofs.Places.{found-filled, found-serves, found-key}
 use Rattle.machine.proofs.Asked.{Due, due, due-again}
 use Rattle.machine.proofs.Translations.{Goes, quiet, hits, fills, filledResult, goes}
@@ -55,7 +55,7 @@ again-numbers : (s : Settings) (first later : VirtAddr) (a : Way) (f : Mapping)
 again-numbers s first later a f =
     ap (λ (x : ℕ). record { answer = 0; value = x; detail = f .size; reads = 0; memoryType = memoryType (f .size) (f .last) }) (piece (f .base .0 + offset first (f .size)) (later .0))
 
-module _ (now : Stand) (sixteen : Sixteen (now .machine .cache)) (first later : VirtAddr) (access mode : ℕ) (pages : List ℕ)
+module _ (now : Stand) (sixteen : Sixteen (now .machine .cache)) (first later : VirtAddr) (access mode : ℕ) (pages : List Numbered)
     (between : List Event) (same : tag later ≡ tag first) (at-most : length pages ≤ others) where
   abbrev s : Settings
   s = now .machine .settings
@@ -65,12 +65,13 @@ module _ (now : Stand) (sixteen : Sixteen (now .machine .cache)) (first later : 
   Promise r =
       succeeded (r .answer) ≡ true
       → Between (tag first) (walkOf s first (now .memory) (r .memory)) pages (record { machine = r .machine; memory = r .memory }) between
+      → presentNumber (run (record { machine = r .machine; memory = r .memory }) between) ≡ presentNumber now
       → numbers (gives (run (record { machine = r .machine; memory = r .memory }) between) (Call.Translate later access mode) .answer)
       ≡ again (numbers (r .answer)) later
 
   after-fill : (a : Way) (f : Mapping) → asked s first access mode ≡ Asked.On a → walkAnswer s first a (now .memory) ≡ Walked.Mapped f
       → Promise (filledResult (now .machine) (now .memory) first access mode a f)
-  after-fill a f on found success spared =
+  after-fill a f on found success spared one-number =
       ap numbers (hit-result (end .machine) (end .memory) later access mode a (placeOf s first a f) on-later find-later)
       ∙ again-numbers s first later a f
     where
@@ -119,7 +120,7 @@ module _ (now : Stand) (sixteen : Sixteen (now .machine .cache)) (first later : 
       find-later : findCache (wanted (end .machine .settings) later a) (end .machine .cache) ≡ Found.At (placeOf s first a f)
       find-later =
           found-again (tag first) pages at-most (placeOf s first a f) refl its-walk its-key s (end .machine) (wanted (end .machine .settings) later a) same
-          (found-serves s first a (now .memory) f found (end .machine .settings) later (at-end .alike) (sym same)) at-end
+          (found-serves s first a (now .memory) f found (end .machine .settings) later (at-end .alike) (sym same) (sym one-number)) at-end
 
   promised : Goes (now .machine) (now .memory) first access mode → Promise (gives now (Call.Translate first access mode))
   promised (quiet r no-success no-fault is fresh-is left-is) =
@@ -130,9 +131,9 @@ module _ (now : Stand) (sixteen : Sixteen (now .machine .cache)) (first later : 
 
 -- the second half
 pub second-half : SecondHalf
-second-half s memory series first later access mode pages between success same at-most spared =
+second-half s memory series first later access mode pages between success same at-most spared one-number =
     promised (run (start s memory) series)
-    (after-series (tag first) (length memory) (start s memory) none (start-sound (tag first) s memory) series .sixteen)
+    (after-series (tag first) 0 (length memory) (start s memory) none (start-sound (tag first) 0 s memory) series .sixteen)
     first later access mode pages between same at-most
     (goes (run (start s memory) series .machine) (run (start s memory) series .memory) first access mode)
-    success spared
+    success spared one-number

@@ -2,84 +2,95 @@
 use Prim.Native.Nat.{ℕ, zero, suc, _+_, _≤_, _<_}
 use native.Mathlib.Omega.{arith}
 use mathlib.Core.Path.{_≡_, refl, sym, ap, _∙_}
-use mathlib.Core.Bool.{Bool, true, false, _||_, cond}
+use mathlib.Core.Bool.{Bool, true, false, not, _&&_, _||_, cond, false≢true}
 use mathlib.Core.List.{List, [], _∷_, _++_}
-use borrow.Author.Tests.{eqb-true, eqb-false, not-true}
+use borrow.Author.Tests.{eqb-true, not-true}
 use lib.Dec.{eqb}
 use lib.ListN.{length, take}
 use Rattle.cache.specs.declared.Place.{Place}
-use Rattle.cache.specs.Places.{otherTag}
 use Rattle.cache.specs.Sets.{keep, pick}
-use Rattle.cache.proofs.Lists.{Each, each-kept}
-use Rattle.machine.specs.Demand1.{among}
+use Rattle.cache.proofs.Lists.{Each, and-true, each-kept}
+use Rattle.machine.specs.Demand3.{Numbered, listed}
+
+-- a page under a number is another
+abbrev same : Numbered → Numbered → Bool
+same p q = eqb (p .tag) (q .tag) && eqb (p .number) (q .number)
+
+same-is : (p q : Numbered) → same p q ≡ true → p ≡ q
+same-is p q h =
+    let both = and-true (eqb (p .tag) (q .tag)) (eqb (p .number) (q .number)) h in
+    λ i. record { tag = eqb-true (p .tag) (q .tag) (both .0) i; number = eqb-true (p .number) (q .number) (both .1) i }
 
 -- the pages of a list without one
-without : ℕ → List ℕ → List ℕ
+without : Numbered → List Numbered → List Numbered
 without t [] = []
-without t (q ∷ qs) = cond (eqb t q) (without t qs) (q ∷ without t qs)
+without t (q ∷ qs) = cond (same t q) (without t qs) (q ∷ without t qs)
 
 -- to leave out a page makes a list no longer, and shorter where the page is in it
-no-longer : (t : ℕ) (qs : List ℕ) → length (without t qs) ≤ length qs
+no-longer : (t : Numbered) (qs : List Numbered) → length (without t qs) ≤ length qs
 unfolding without
 no-longer t [] = omega arith
-no-longer t (q ∷ qs) = go (eqb t q) (no-longer t qs)
+no-longer t (q ∷ qs) = go (same t q) (no-longer t qs)
   where
     go : (b : Bool) → length (without t qs) ≤ length qs → length (cond b (without t qs) (q ∷ without t qs)) ≤ suc (length qs)
     go true h = omega arith
     go false h = omega arith
 
-shorter : (t : ℕ) (qs : List ℕ) → among t qs ≡ true → length (without t qs) < length qs
+shorter : (t : Numbered) (qs : List Numbered) → listed t qs ≡ true → length (without t qs) < length qs
 unfolding without
 shorter t [] h = let z : _≡_ {A = ℕ} 0 1 = cc in absurd (omega arith)
-shorter t (q ∷ qs) h = go (eqb t q) h (shorter t qs)
+shorter t (q ∷ qs) h = go (same t q) h (shorter t qs)
   where
-    go : (b : Bool) → (b || among t qs) ≡ true → (among t qs ≡ true → length (without t qs) < length qs)
+    go : (b : Bool) → (b || listed t qs) ≡ true → (listed t qs ≡ true → length (without t qs) < length qs)
         → length (cond b (without t qs) (q ∷ without t qs)) < suc (length qs)
     go true h below = omega (arith, no-longer t qs)
     go false h below = omega (arith, below h)
 
 -- another page stays in the list
-still : (t u : ℕ) → (u ≡ t → ⊥) → (qs : List ℕ) → among u qs ≡ true → among u (without t qs) ≡ true
+still : (t u : Numbered) → same u t ≡ false → (qs : List Numbered) → listed u qs ≡ true → listed u (without t qs) ≡ true
 unfolding without
 still t u apart [] h = h
-still t u apart (q ∷ qs) h = go (eqb u q) (eqb t q) refl refl h (still t u apart qs)
+still t u apart (q ∷ qs) h = go (same u q) (same t q) refl refl h (still t u apart qs)
   where
-    go : (a b : Bool) → eqb u q ≡ a → eqb t q ≡ b → (a || among u qs) ≡ true → (among u qs ≡ true → among u (without t qs) ≡ true)
-        → among u (cond b (without t qs) (q ∷ without t qs)) ≡ true
-    go true true ea eb h below = absurd (apart (eqb-true u q ea ∙ sym (eqb-true t q eb)))
+    go : (a b : Bool) → same u q ≡ a → same t q ≡ b → (a || listed u qs) ≡ true → (listed u qs ≡ true → listed u (without t qs) ≡ true)
+        → listed u (cond b (without t qs) (q ∷ without t qs)) ≡ true
+    go true true ea eb h below = absurd (false≢true (sym apart ∙ ap (same u) (same-is t q eb) ∙ ea))
     go true false ea eb h below = rw ea
     go false true ea eb h below = below h
     go false false ea eb h below = rw ea (below h)
 
+-- a place's page under its number
+abbrev pub numbered : Place → Numbered
+numbered p = record { tag = p .tag; number = p .number }
+
+-- a place of another page, or of another number
+abbrev pub otherNumbered : Place → Place → Bool
+otherNumbered p q = not (same (numbered q) (numbered p))
+
 -- places of distinct pages of a list
-abbrev pub Few : List ℕ → List Place → Type 0
+abbrev pub Few : List Numbered → List Place → Type 0
 Few pages [] = Unit
-Few pages (p ∷ ps) = (among (p .tag) pages ≡ true) × Each (otherTag (p .tag)) ps × Few pages ps
+Few pages (p ∷ ps) = (listed (numbered p) pages ≡ true) × Each (otherNumbered p) ps × Few pages ps
 
--- a place of another page
-other-apart : (t : ℕ) (p : Place) → otherTag t p ≡ true → p .tag ≡ t → ⊥
-unfolding otherTag
-other-apart t p h = eqb-false (p .tag) t (not-true (eqb (p .tag) t) h)
-
-few-without : (t : ℕ) (pages : List ℕ) (ps : List Place) → Each (otherTag t) ps → Few pages ps → Few (without t pages) ps
+few-without : (t : Place) (pages : List Numbered) (ps : List Place) → Each (otherNumbered t) ps → Few pages ps → Few (without (numbered t) pages) ps
 few-without t pages [] others few = tt
 few-without t pages (p ∷ ps) others few =
-    (still t (p .tag) (other-apart t p (others .0)) pages (few .0), few .1, few-without t pages ps (others .1) (few .2))
+    (still (numbered t) (numbered p) (not-true (same (numbered p) (numbered t)) (others .0)) pages (few .0), few .1, few-without t pages ps (others .1) (few .2))
 
 -- there are no more of them than pages in the list
-pub few-length : (ps : List Place) (pages : List ℕ) → Few pages ps → length ps ≤ length pages
+pub few-length : (ps : List Place) (pages : List Numbered) → Few pages ps → length ps ≤ length pages
 few-length [] pages few = omega arith
 few-length (p ∷ ps) pages few =
-    let rest = few-length ps (without (p .tag) pages) (few-without (p .tag) pages ps (few .1) (few .2)) in
-    omega (arith, shorter (p .tag) pages (few .0))
+    let rest = few-length ps (without (numbered p) pages) (few-without p pages ps (few .1) (few .2)) in
+    omega (arith, shorter (numbered p) pages (few .0))
 
 -- a filter leaves few
-pub few-keep : (pages : List ℕ) (test : Place → Bool) (ps : List Place) → Few pages ps → Few pages (keep test ps)
+pub few-keep : (pages : List Numbered) (test : Place → Bool) (ps : List Place) → Few pages ps → Few pages (keep test ps)
 few-keep pages test [] few = tt
 few-keep pages test (p ∷ ps) few = go (test p) (few-keep pages test ps (few .2))
   where
     go : (b : Bool) → Few pages (keep test ps) → Few pages (pick b p (keep test ps))
-    go true rest = (few .0, each-kept (otherTag (p .tag)) test ps (few .1), rest)
+    go true rest = (few .0, each-kept (otherNumbered p) test ps (few .1), rest)
     go false rest = rest
 
 -- a filter goes over both parts of a list

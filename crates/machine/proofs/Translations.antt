@@ -1,11 +1,12 @@
 -- The four ways that a translation goes: no walk is due, a hit, a walk that fills, a walk that drops.
 use Prim.Native.Nat.{ℕ}
-use mathlib.Core.Path.{_≡_, refl}
+use mathlib.Core.Path.{_≡_, refl, ap}
 use mathlib.Core.Bool.{true, false}
 use mathlib.Core.List.{List}
 use Rattle.settings.specs.declared.Settings.{Settings}
 use Rattle.settings.specs.declared.Unserved.{Unserved}
-use Rattle.settings.specs.declared.Unserved.the-variants.{Width, Root, Paging, Extension}
+use Rattle.settings.specs.declared.Unserved.the-variants.{Width, Root, Paging, Extension, Spaces}
+use Rattle.settings.specs.Settings.{spaceNumber}
 use Rattle.address.specs.declared.VirtAddr.{VirtAddr}
 use Rattle.address.specs.Address.{tag}
 use Rattle.walk.specs.declared.Way.{Way}
@@ -40,18 +41,21 @@ not-succeeded Width = refl
 not-succeeded Root = refl
 not-succeeded Paging = refl
 not-succeeded Extension = refl
+not-succeeded Spaces = refl
 
 pub not-faulted : (why : Unserved) → faulted (Answer.NotServed why) ≡ false
 not-faulted Width = refl
 not-faulted Root = refl
 not-faulted Paging = refl
 not-faulted Extension = refl
+not-faulted Spaces = refl
 
 pub not-accepted : (why : Unserved) → accepted (Answer.NotServed why) ≡ false
 not-accepted Width = refl
 not-accepted Root = refl
 not-accepted Paging = refl
 not-accepted Extension = refl
+not-accepted Spaces = refl
 
 module _ (m : Machine) (memory : List ℕ) (address : VirtAddr) (access mode : ℕ) where
   abbrev s : Settings
@@ -77,7 +81,7 @@ module _ (m : Machine) (memory : List ℕ) (address : VirtAddr) (access mode : �
       }
 
   abbrev pub droppedResult : Answer → Result
-  droppedResult r = record { answer = r; machine = withCache m (dropCache (Page (tag address)) (m .cache)); memory = memory }
+  droppedResult r = record { answer = r; machine = withCache m (dropCache (Page (tag address) (spaceNumber s)) (m .cache)); memory = memory }
 
   -- a result that changes nothing
   abbrev pub sameResult : Answer → Result
@@ -118,3 +122,13 @@ module _ (m : Machine) (memory : List ℕ) (address : VirtAddr) (access mode : �
 
   pub goes : Goes
   goes = by-asked (asked s address access mode) refl
+
+  -- a translation leaves the settings
+  pub settings-kept : result .machine .settings ≡ s
+  settings-kept = go goes
+    where
+      go : Goes → result .machine .settings ≡ s
+      go (quiet r no-success no-fault is fresh-is left-is) = ap (λ (x : Result). x .machine .settings) is
+      go (hits a p found is fresh-is left-is) = ap (λ (x : Result). x .machine .settings) is
+      go (fills a f on found is fresh-is left-is) = ap (λ (x : Result). x .machine .settings) is
+      go (drops r no-success fault is fresh-is left-is) = ap (λ (x : Result). x .machine .settings) is

@@ -16,7 +16,7 @@ pub struct Machine {
     pub cache: Cache,
 }
 
-// A call: a translation (address, access, mode), a store (address, value), the loads (CR3; CR0, CR4, EFER, M), the drops.
+// A call: a translation (address, access, mode), a store (address, value), the loads (CR3; CR0, CR4, EFER, M), the drops, INVPCID (kind, space number, address).
 pub enum Call {
     Translate(VirtAddr, u64, u64),
     Store(u64, u64),
@@ -24,6 +24,7 @@ pub enum Call {
     LoadSettings(u64, u64, u64, u64),
     DropPage(VirtAddr),
     DropAll,
+    Invpcid(u64, u64, VirtAddr),
 }
 
 // What a call gives beside memory: the answer and the machine afterwards.

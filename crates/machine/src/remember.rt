@@ -54,6 +54,7 @@ pub(crate) fn wanted(settings: Settings, address: VirtAddr, way: Way) -> Wanted
     Wanted {
         tag: address.tag(),
         flags: flags(write, way.user, way.fetches(), way.writes()),
+        number: settings.space_number(),
     }
 }
 
@@ -79,6 +80,7 @@ pub(crate) fn place_of(settings: Settings, address: VirtAddr, way: Way, found: M
         frame,
         size: found.size,
         memoryType: memory_type(found.last, level),
+        number: settings.space_number(),
         flags: rights + flag(global & pge, Place::GLOBAL) + Place::MARKED,
     }
 }

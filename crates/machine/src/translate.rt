@@ -26,7 +26,14 @@ ghost use Rattle.cache.specs.Places.{setIndex};
 ghost use Rattle.cache.specs.Sets.{fillSet};
 ghost use Rattle.machine.specs.Calls as spec;
 ghost use Rattle.machine.specs.Probe.{probed};
-ghost use Rattle.machine.specs.Remember.{placeOf};
+ghost use Rattle.machine.specs.Remember.{pageDrop, placeOf};
+
+// What a drop of an address's page takes.
+pub fn page_drop(settings: Settings, address: VirtAddr) -> Drop
+    ensures { λ r. ⌜ r ≡ pageDrop settings address ⌝ }
+{
+    Drop::Page(address.tag(), settings.space_number())
+}
 
 // What a translation finds in the page's set before it walks.
 pub fn probe(settings: Settings, set: Set, address: VirtAddr, access: u64, mode: u64) -> Probed
@@ -80,10 +87,10 @@ impl Machine {
                         cache.sets[index] = filled;
                     }
                     Walked::Refused(_, _) => {
-                        cache = cache.drop(Drop::Page(address.tag()));
+                        cache = cache.drop(page_drop(settings, address));
                     }
                     Walked::Outside(_, _, _) => {
-                        cache = cache.drop(Drop::Page(address.tag()));
+                        cache = cache.drop(page_drop(settings, address));
                     }
                 }
                 Stepped {

@@ -9,50 +9,73 @@ use borrow.Author.Tests.{lt-ltb, le-ltb, eq-eqb, ne-eqb}
 use lib.Dec.{eqb, ltb}
 use lib.Pow.{pow-pos}
 use Rattle.settings.specs.declared.Settings.{Settings}
-use Rattle.settings.specs.declared.Unserved.the-variants.{Width, Root, Paging, Extension}
+use Rattle.settings.specs.declared.Unserved.the-variants.{Width, Root, Paging, Extension, Spaces}
 use Rattle.settings.specs.declared.Service.{Service}
 use Rattle.settings.specs.declared.Service.the-variants.{Served, NotServed}
-use Rattle.settings.specs.Settings.{pg, widthServed, rootServed, modeServed, extensionsServed, served, judged, accepts}
+use Rattle.settings.specs.Settings.{widthServed, rootServed, modeServed, extensionsServed, spacesServed, served, judged, refusedOn, turnsOnNumbered, judgedFrom, accepts}
 
--- what the five tests answer
-abbrev pub answer : Bool → Bool → Bool → Bool → Bool → Service
-answer width root pg mode extensions =
-    cond width (cond root (cond pg (cond mode (cond extensions Served (NotServed Extension)) (NotServed Paging)) Served) (NotServed Root))
+-- what the five tests answer, by PG and the bits that they ask for
+abbrev pub answer : Bool → Bool → Bool → Bool → Bool → Bool → Service
+answer width root pg mode extensions pcide =
+    cond width
+    (cond root
+    (cond (not pg || mode)
+    (cond (not pg || extensions) (cond (not pcide || pg) Served (NotServed Spaces)) (NotServed Extension))
+    (NotServed Paging))
+    (NotServed Root))
     (NotServed Width)
 
-module _ (width root pg mode extensions : Bool) where
-  pub no-width : width ≡ false → NotServed Width ≡ answer width root pg mode extensions
+module _ (width root pg mode extensions pcide : Bool) where
+  pub no-width : width ≡ false → NotServed Width ≡ answer width root pg mode extensions pcide
   no-width a = rw a
 
-  pub no-root : width ≡ true → root ≡ false → NotServed Root ≡ answer width root pg mode extensions
+  pub no-root : width ≡ true → root ≡ false → NotServed Root ≡ answer width root pg mode extensions pcide
   no-root a b = rw (a, b)
 
-  pub off : width ≡ true → root ≡ true → pg ≡ false → Served ≡ answer width root pg mode extensions
-  off a b c = rw (a, b, c)
+  pub off : width ≡ true → root ≡ true → pg ≡ false → cond pcide (NotServed Spaces) Served ≡ answer width root pg mode extensions pcide
+  off a b c = rw (a, b, c) (by-number pcide)
+    where
+      by-number : (n : Bool) → cond n (NotServed Spaces) Served ≡ cond (not n || false) Served (NotServed Spaces)
+      by-number true = refl
+      by-number false = refl
 
-  pub no-mode : width ≡ true → root ≡ true → pg ≡ true → mode ≡ false → NotServed Paging ≡ answer width root pg mode extensions
+  pub no-mode : width ≡ true → root ≡ true → pg ≡ true → mode ≡ false → NotServed Paging ≡ answer width root pg mode extensions pcide
   no-mode a b c d = rw (a, b, c, d)
 
   pub no-extensions : width ≡ true → root ≡ true → pg ≡ true → mode ≡ true → extensions ≡ false
-      → NotServed Extension ≡ answer width root pg mode extensions
+      → NotServed Extension ≡ answer width root pg mode extensions pcide
   no-extensions a b c d e = rw (a, b, c, d, e)
 
-  pub on : width ≡ true → root ≡ true → pg ≡ true → mode ≡ true → extensions ≡ true
-      → Served ≡ answer width root pg mode extensions
-  on a b c d e = rw (a, b, c, d, e)
+  pub on : width ≡ true → root ≡ true → pg ≡ true → mode ≡ true → extensions ≡ true → Served ≡ answer width root pg mode extensions pcide
+  on a b c d e = rw (a, b, c, d, e) (by-number pcide)
+    where
+      by-number : (n : Bool) → Served ≡ cond (not n || true) Served (NotServed Spaces)
+      by-number true = refl
+      by-number false = refl
 
 -- a record is served exactly where no test refuses it
 pub served-judged : (s : Settings) → served s ≡ accepts (judged s)
-served-judged s = go (widthServed s) (rootServed s) (pg s) (modeServed s) (extensionsServed s)
+served-judged s = go (widthServed s) (rootServed s) (modeServed s) (extensionsServed s) (spacesServed s)
   where
-    go : (width root pg mode extensions : Bool)
-        → (width && (root && (not pg || (mode && extensions)))) ≡ accepts (answer width root pg mode extensions)
+    go : (width root mode extensions spaces : Bool)
+        → (width && (root && (mode && (extensions && spaces)))) ≡ accepts (cond width
+        (cond root (cond mode (cond extensions (cond spaces Served (NotServed Spaces)) (NotServed Extension)) (NotServed Paging)) (NotServed Root))
+        (NotServed Width))
     go true true true true true = refl
     go true true true true false = refl
-    go true true true false extensions = refl
-    go true true false mode extensions = refl
-    go true false pg mode extensions = refl
-    go false root pg mode extensions = refl
+    go true true true false spaces = refl
+    go true true false extensions spaces = refl
+    go true false mode extensions spaces = refl
+    go false root mode extensions spaces = refl
+
+-- a load that is served leaves settings that are served
+pub judged-from : (before s : Settings) → judgedFrom before s ≡ Served → judged s ≡ Served
+judged-from before s h = go (turnsOnNumbered before s) (judged s) h
+  where
+    go : (b : Bool) (x : Service) → cond b (refusedOn x) x ≡ Served → x ≡ Served
+    go true Served h = refl
+    go true (NotServed why) h = h
+    go false x h = h
 
 -- a number has nothing from bit k on exactly where it is below 2^k
 pub shifted-out : (n k : ℕ) → eqb (n / 2 ^ k) 0 ≡ ltb n (2 ^ k)

@@ -15,12 +15,13 @@ pub struct Settings {
     pub width: u64,
 }
 
-// What is wrong with a settings record that is not served: the width, the root for it, paging on without PE, PAE or LME, an extension bit.
+// What is wrong with a settings record that is not served: the width, the root for it, paging on without PE, PAE or LME, an extension bit, address-space numbers.
 pub enum Unserved {
     Width,
     Root,
     Paging,
     Extension,
+    Spaces,
 }
 
 // Whether a settings record is served.
@@ -38,6 +39,7 @@ pub fn number(unserved: Unserved) -> u64
         Unserved::Root => 8,
         Unserved::Paging => 9,
         Unserved::Extension => 10,
+        Unserved::Spaces => 11,
     }
 }
 
@@ -52,6 +54,8 @@ impl Settings {
     pub const PAE: u64 = 5;
 
     pub const PGE: u64 = 7;
+
+    pub const PCIDE: u64 = 17;
 
     pub const LME: u64 = 8;
 
@@ -98,6 +102,23 @@ impl Settings {
         bit(self.efer, Settings::NXE)
     }
 
+    // Whether address-space numbers are on.
+    pub fn pcide(self) -> bool
+        ensures { λ r. ⌜ r ≡ spec.pcide self ⌝ }
+    {
+        bit(self.cr4, Settings::PCIDE)
+    }
+
+    // The present space number.
+    pub fn space_number(self) -> u16
+        ensures { λ r. ⌜ r ≡ spec.spaceNumber self ⌝ }
+    {
+        if self.pcide() {
+            return (self.cr3 % 4096) as u16;
+        }
+        0
+    }
+
     // The root: CR3 without its low 12 bits.
     pub fn root(self) -> PhysAddr
         ensures { λ r. ⌜ r ≡ spec.root self ⌝ }
@@ -123,9 +144,9 @@ impl Settings {
         self.cr3 >> width == 0
     }
 
-    // Whether PE, PAE and LME are set.
-    fn mode_served(self) -> bool
-        ensures { λ r. ⌜ r ≡ spec.modeServed self ⌝ }
+    // Whether PE, PAE and LME are set, as paging needs them.
+    fn mode(self) -> bool
+        ensures { λ r. ⌜ r ≡ spec.mode self ⌝ }
     {
         let pe = bit(self.cr0, Settings::PE);
         let pae = bit(self.cr4, Settings::PAE);
@@ -133,17 +154,16 @@ impl Settings {
         pe & (pae & lme)
     }
 
-    // Whether CR4 bits 12, 17 and 20 to 24 are clear.
-    fn extensions_served(self) -> bool
-        ensures { λ r. ⌜ r ≡ spec.extensionsServed self ⌝ }
+    // Whether CR4 bits 12 and 20 to 24 are clear, as paging needs them.
+    fn extensions(self) -> bool
+        ensures { λ r. ⌜ r ≡ spec.extensions self ⌝ }
     {
         let five_levels = bit(self.cr4, 12);
-        let spaces = bit(self.cr4, 17);
         let later = field(self.cr4, 20, 5);
-        !five_levels & (!spaces & (later == 0))
+        !five_levels & (later == 0)
     }
 
-    // The first test that fails, in the order width, root, mode, extensions.
+    // The first test that fails, in the order width, root, mode, extensions, space numbers.
     pub fn judge(self) -> Service
         ensures { λ r. ⌜ r ≡ spec.judged self ⌝ }
     {
@@ -154,14 +174,47 @@ impl Settings {
             return Service::NotServed(Unserved::Root);
         }
         if !self.pg() {
-            return Service::Served;
+            return self.judge_unpaged();
         }
-        if !self.mode_served() {
+        if !self.mode() {
             return Service::NotServed(Unserved::Paging);
         }
-        if !self.extensions_served() {
+        if !self.extensions() {
             return Service::NotServed(Unserved::Extension);
         }
         Service::Served
+    }
+
+    // With paging off address-space numbers must be off too.
+    fn judge_unpaged(self) -> Service
+        ensures { λ r. ⌜ r ≡ spec.judgedUnpaged self ⌝ }
+    {
+        if self.pcide() {
+            return Service::NotServed(Unserved::Spaces);
+        }
+        Service::Served
+    }
+
+    // Whether space numbers are on now and were off before, while CR3 bits 11:0 are not 0.
+    fn turns_on_numbered(self, before: Settings) -> bool
+        ensures { λ r. ⌜ r ≡ spec.turnsOnNumbered before self ⌝ }
+    {
+        let was = before.pcide();
+        let is = self.pcide();
+        (!was & is) & !(self.cr3 % 4096 == 0)
+    }
+
+    // What is answered of the settings that a load would leave, from those before it.
+    pub fn judge_from(self, before: Settings) -> Service
+        ensures { λ r. ⌜ r ≡ spec.judgedFrom before self ⌝ }
+    {
+        let service = self.judge();
+        if !self.turns_on_numbered(before) {
+            return service;
+        }
+        match service {
+            Service::Served => Service::NotServed(Unserved::Spaces),
+            Service::NotServed(why) => Service::NotServed(why),
+        }
     }
 }

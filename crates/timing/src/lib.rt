@@ -1,9 +1,9 @@
 // A loop of remembered translations that keeps the machine in a local, for the speed command alone.
 use address::VirtAddr;
 use cache::Cache;
-use cache::Drop;
 use machine::Probed;
 use machine::translate::fill;
+use machine::translate::page_drop;
 use machine::translate::probe;
 use settings::Settings;
 use walk::Answer;
@@ -68,10 +68,10 @@ pub extern "C" fn timing_translations(
                         cache.sets[index] = filled;
                     }
                     Walked::Refused(_, _) => {
-                        cache = cache.drop(Drop::Page(address.tag()));
+                        cache = cache.drop(page_drop(settings, address));
                     }
                     Walked::Outside(_, _, _) => {
-                        cache = cache.drop(Drop::Page(address.tag()));
+                        cache = cache.drop(page_drop(settings, address));
                     }
                 }
             }

@@ -86,7 +86,7 @@ fn registers() {
     );
 }
 
-// "and CR4 bits 12, 17 and 20 to 24 clear. With PG = 0 no other bit is tested."
+// "and CR4 bits 12 [..] and 20 to 24 clear. With PG = 0 no other bit is tested."; "Serve CR4 bit 17", but not "with paging off"
 fn extensions() {
     judge(b"CR4 bit 12 set", with_cr4(0x1020));
     judge(b"CR4 bit 17 set", with_cr4(0x2_0020));
@@ -95,9 +95,11 @@ fn extensions() {
     judge(b"CR4 bit 24 set", with_cr4(0x100_0020));
     judge(b"CR4 bit 25 set", with_cr4(0x200_0020));
     judge(
-        b"PG clear, CR4 bits 12, 17, 20 to 24 set",
-        record(0, 0, 0x1f2_1000, 0, 40),
+        b"PG clear, CR4 bits 12, 20 to 24 set",
+        record(0, 0, 0x1f0_1000, 0, 40),
     );
+    judge(b"PG clear, CR4 bit 17 set", record(0, 0, 0x2_0000, 0, 40));
+    judge(b"CR4 bits 17 and 20 set", with_cr4(0x12_0020));
     judge(b"all registers 0, M 40", Settings::initial());
 }
 

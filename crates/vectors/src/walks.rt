@@ -224,14 +224,21 @@ fn later_extensions() {
     extended(b", CR4 bit 24 set", 0x100_0020);
 }
 
-// "and CR4 bits 12, 17 and 20 to 24 clear. With PG = 0 no other bit is tested."
+// "and CR4 bits 12 [..] and 20 to 24 clear. With PG = 0 no other bit is tested."; "Serve CR4 bit 17", but not "with paging off"
 fn extensions() {
     extended(b", CR4 bit 12 set", 0x1020);
     extended(b", CR4 bit 17 set", 0x2_0020);
     later_extensions();
     ask(
-        b", paging off, CR4 bits 12, 17, 20 to 24 set",
-        record(0, 0, 0x1f2_1000, 0, 40),
+        b", paging off, CR4 bits 12, 20 to 24 set",
+        record(0, 0, 0x1f0_1000, 0, 40),
+        USER,
+        READ,
+        0x40_3abc,
+    );
+    ask(
+        b", paging off, CR4 bit 17 set",
+        record(0, 0, 0x2_0000, 0, 40),
         USER,
         READ,
         0x40_3abc,

@@ -219,6 +219,7 @@ module _ (s : Settings) (va : VirtAddr) (a : Way) (m : List ℕ) (p : Path) wher
   count Answer.Form = 0
   count (Answer.Outside at l n) = n
   count (Answer.Fault c l n) = n
+  count Answer.SpaceNumber = 0
 
   pub counted : (x : End) (o : Option Entry) → reply ≡ verdict x o → count reply ≡ length (entries p)
   counted (outside l b) o told = ap count told

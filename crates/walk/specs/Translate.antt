@@ -132,3 +132,4 @@ numbers (Answer.NotServed why) = refusal (number why)
 numbers Answer.Form = refusal 3
 numbers (Answer.Outside at l n) = record { answer = 4; value = at .0; detail = l; reads = n; memoryType = 0 }
 numbers (Answer.Fault c l n) = record { answer = 5; value = c; detail = l; reads = n; memoryType = 0 }
+numbers Answer.SpaceNumber = refusal 12

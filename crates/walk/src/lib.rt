@@ -60,7 +60,7 @@ pub struct Translation {
     pub reads: u64,
 }
 
-// What a call is answered: a translation, or address and level, or code and level, each with the entries read.
+// What a call is answered: a translation, a refusal, or address and level, or code and level, each with the entries read.
 pub enum Answer {
     Done(Translation),
     Unknown,
@@ -68,6 +68,7 @@ pub enum Answer {
     Form,
     Outside(PhysAddr, u64, u64),
     Fault(u64, u64, u64),
+    SpaceNumber,
 }
 
 // The five numbers of an answer.

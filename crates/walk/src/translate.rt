@@ -195,6 +195,7 @@ pub fn numbers(answer: Answer) -> Numbers
             reads,
             memoryType: 0,
         },
+        Answer::SpaceNumber => refusal(12),
     }
 }
 

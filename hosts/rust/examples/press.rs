@@ -1,6 +1,7 @@
 //! The first exercise on a machine that remembers: press, and the driver counts in its page; move the
 //! page, press again, and the old page still counts; drop the page, press again, and the new one does.
-//! Then one drop of a large page, and a page that is uncached. Prints each step and checks it. Exits with 1 where anything differs.
+//! Then one drop of a large page, and a page that is uncached. Prints each step and checks it. Exits with
+//! 1 where anything differs.
 
 use std::process::ExitCode;
 

@@ -29,12 +29,13 @@ impl Card {
         Card::new(1, address, value)
     }
 
-    /// Loads CR3; all but G places are dropped.
+    /// Loads CR3; all but G places are dropped. With space numbers the places of the number loaded that are
+    /// not G are dropped, or none where bit 63 is set, which is then no part of CR3.
     pub fn load_root(cr3: u64) -> Card {
         Card::new(2, 0, cr3)
     }
 
-    /// Drops each place whose page, at the place's own size, contains the address.
+    /// Drops each place whose page, at the place's own size, contains the address, of the present number or G.
     pub fn drop_page(address: u64) -> Card {
         Card::new(3, address, 0)
     }

@@ -25,7 +25,7 @@ pub const SUPERVISOR: u64 = 0;
 /// Mode: user.
 pub const USER: u64 = 1;
 
-/// Refused: access, mode or card kind unknown.
+/// Refused: access, mode, card kind or INVPCID kind unknown.
 pub const UNKNOWN: u64 = 1;
 /// Refused: the width M is not from 32 to 52.
 pub const WIDTH: u64 = 2;
@@ -37,8 +37,21 @@ pub const CARD_SHORT: u64 = 6;
 pub const ROOT: u64 = 8;
 /// Refused: paging on without PE, PAE or LME.
 pub const PAGING: u64 = 9;
-/// Refused: paging on with a bit of CR4 that is not served, of 12, 17 and 20 to 24.
+/// Refused: paging on with a bit of CR4 that is not served, of 12 and 20 to 24.
 pub const EXTENSION: u64 = 10;
+/// Refused: space numbers with paging off, or turned on while CR3 bits 11:0 are not 0.
+pub const SPACES: u64 = 11;
+/// Refused: INVPCID's space number is above 4,095, or in kinds 0 and 1 not 0 without space numbers.
+pub const SPACE_NUMBER: u64 = 12;
+
+/// INVPCID: drops each place of a number whose page contains an address, but no G place.
+pub const INVPCID_ADDRESS: u64 = 0;
+/// INVPCID: drops each place of a number, but no G place.
+pub const INVPCID_NUMBER: u64 = 1;
+/// INVPCID: drops everything.
+pub const INVPCID_ALL: u64 = 2;
+/// INVPCID: drops all but G places.
+pub const INVPCID_LOCAL: u64 = 3;
 
 /// What is asked: a virtual address, how it is used and by whom.
 #[derive(Clone, Copy, Debug, PartialEq, Eq)]
@@ -64,6 +77,7 @@ pub enum Answer {
     Outside { entry: u64, level: u64, reads: u64 },
     /// A page fault with its error code and the level of the entry at fault.
     Fault { code: u64, level: u64, reads: u64 },
-    /// Refused before a walk: [`UNKNOWN`], [`WIDTH`], [`ROOT`], [`PAGING`], [`EXTENSION`], [`FORM`] or [`CARD_SHORT`].
+    /// Refused before a walk: [`UNKNOWN`], [`WIDTH`], [`ROOT`], [`PAGING`], [`EXTENSION`], [`SPACES`],
+    /// [`SPACE_NUMBER`], [`FORM`] or [`CARD_SHORT`].
     Refused(u64),
 }

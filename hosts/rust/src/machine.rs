@@ -26,19 +26,28 @@ impl Machine {
         let number = raw::step(&mut self.record, memory, card, &mut buffer);
         answered(number, &buffer)
     }
+
+    /// INVPCID: drops by its kind, by a space number and by an address, or is refused.
+    pub fn invpcid(&mut self, kind: u64, number: u64, address: u64) -> Answer {
+        let mut buffer = [0; BUFFER];
+        let asked = [kind, number, address];
+        let number = raw::invpcid(&mut self.record, asked, &mut buffer);
+        answered(number, &buffer)
+    }
 }
 
 #[cfg(test)]
 mod tests {
     use super::Machine;
     use crate::{Answer, Card, Place, Question, Settings, CARD_SHORT, USER, WRITE};
-    use crate::{EXTENSION, PAGING, ROOT, WIDTH};
+    use crate::{EXTENSION, FORM, PAGING, ROOT, SPACES, SPACE_NUMBER, UNKNOWN, WIDTH};
+    use crate::{INVPCID_ADDRESS, INVPCID_ALL, INVPCID_LOCAL, INVPCID_NUMBER};
 
-    /// Paging on, PGE set, 40 physical bits.
+    /// Paging on, PGE and space numbers on, 40 physical bits.
     const SETTINGS: Settings = Settings {
         cr0: 0x8001_0001,
         cr3: 0x1000,
-        cr4: 0xA0,
+        cr4: 0x2_00A0,
         efer: 0x900,
         width: 40,
     };
@@ -58,6 +67,8 @@ mod tests {
         assert_eq!(answer, DONE);
         assert_eq!(machine.record.settings, SETTINGS);
         let mut memory = vec![0; 0x5000];
+        let root = Card::load_root(0x1ABC);
+        assert_eq!(machine.step(&mut memory, &root.0), DONE);
         let entries = [
             (0x1000, 0x2007),
             (0x2000, 0x3007),
@@ -86,6 +97,7 @@ mod tests {
             size: 1,
             flags: Place::USER | Place::GLOBAL | Place::MARKED,
             memory_type: 5,
+            number: 0xABC,
         };
         assert_eq!(machine.record.sets[3][0], place);
         let again = machine.step(&mut memory, &Card::translate(read).0);
@@ -165,11 +177,13 @@ mod tests {
             cr4: 0x10_0020,
             ..SETTINGS
         };
+        let spaces = Settings { cr0: 0, ..SETTINGS };
         let cases = [
             (narrow, WIDTH),
             (root, ROOT),
             (paging, PAGING),
             (extension, EXTENSION),
+            (spaces, SPACES),
         ];
         for (settings, number) in cases {
             let refused = Answer::Refused(number);
@@ -181,6 +195,40 @@ mod tests {
                 assert_eq!(machine.step(&mut [], &card.0), refused);
                 assert_eq!(machine, before);
             }
+        }
+    }
+    /// INVPCID of every kind drops what it names, and its refusals leave the machine.
+    #[test]
+    fn invpcid_is_answered() {
+        let (_, mut machine) = Machine::start(SETTINGS);
+        let places = [(0x600, 1, 0), (0x601, 2, 0), (0x602, 2, Place::GLOBAL)];
+        for (tag, number, flags) in places {
+            machine.record.sets[tag as usize % 16][0] = Place {
+                tag,
+                size: 2,
+                flags: Place::MARKED | flags,
+                number,
+                ..Place::default()
+            };
+        }
+        let marked = |place: Place| u8::from(place.flags & Place::MARKED != 0);
+        let held = |machine: &Machine| [0, 1, 2].map(|set| marked(machine.record.sets[set][0]));
+        let known = [
+            (INVPCID_ADDRESS, 1, [0, 1, 1]),
+            (INVPCID_NUMBER, 2, [1, 0, 1]),
+            (INVPCID_LOCAL, 0, [0, 0, 1]),
+            (INVPCID_ALL, 0, [0, 0, 0]),
+        ];
+        for (kind, number, left) in known {
+            let mut machine = machine;
+            assert_eq!(machine.invpcid(kind, number, 0x7F_FFFF), DONE);
+            assert_eq!(held(&machine), left, "kind {kind}");
+        }
+        let before = machine;
+        for (kind, number, refusal) in [(4, 4096, UNKNOWN), (0, 4096, SPACE_NUMBER), (0, 1, FORM)] {
+            let answer = machine.invpcid(kind, number, 1 << 47);
+            assert_eq!(answer, Answer::Refused(refusal));
+            assert_eq!(machine, before);
         }
     }
 }

@@ -3,7 +3,7 @@
 use std::fmt::{Display, Formatter, Result};
 
 use crate::{Answer, Question, FETCH, READ, SUPERVISOR, USER, WRITE};
-use crate::{CARD_SHORT, EXTENSION, FORM, PAGING, ROOT, UNKNOWN, WIDTH};
+use crate::{CARD_SHORT, EXTENSION, FORM, PAGING, ROOT, SPACES, SPACE_NUMBER, UNKNOWN, WIDTH};
 
 impl Display for Question {
     /// Mode, access and address.
@@ -62,11 +62,13 @@ impl Display for Answer {
 /// What a refusal's number says.
 fn meaning(number: u64) -> &'static str {
     match number {
-        UNKNOWN => "access, mode or card kind unknown",
+        UNKNOWN => "access, mode or kind unknown",
         WIDTH => "width not from 32 to 52",
         ROOT => "root too large for the width",
         PAGING => "paging on without PE, PAE or LME",
         EXTENSION => "an extension bit not served",
+        SPACES => "space numbers cannot be on",
+        SPACE_NUMBER => "space number not served",
         FORM => "address form",
         CARD_SHORT => "card short",
         _ => "number unknown",
@@ -75,7 +77,7 @@ fn meaning(number: u64) -> &'static str {
 
 #[cfg(test)]
 mod tests {
-    use crate::{Answer, EXTENSION, PAGING, ROOT, WIDTH};
+    use crate::{Answer, EXTENSION, PAGING, ROOT, SPACES, WIDTH};
 
     /// Each wrong setting has a text of its own.
     #[test]
@@ -85,6 +87,7 @@ mod tests {
             (ROOT, "refused with 8, root too large for the width"),
             (PAGING, "refused with 9, paging on without PE, PAE or LME"),
             (EXTENSION, "refused with 10, an extension bit not served"),
+            (SPACES, "refused with 11, space numbers cannot be on"),
         ];
         for (number, text) in texts {
             assert_eq!(Answer::Refused(number).to_string(), text);

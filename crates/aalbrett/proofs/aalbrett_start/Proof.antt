@@ -43,13 +43,13 @@ use Rattle.machine.proofs.Machine as T
 use Rattle.machine.proofs.Machine.Laws as T′
 use Rattle.aalbrett.specs.Host.{registers}
 use Rattle.aalbrett.specs.Lent.{startNumber}
-use Rattle.aalbrett.specs.declared.start.Started.{Started}
-use Rattle.aalbrett.proofs.start.Started as K
-use Rattle.aalbrett.proofs.start.Started.Laws as K′
-use Rattle.aalbrett.proofs.start.start as value
-use Rattle.aalbrett.proofs.start.start.Symbol as value-def
-use Rattle.aalbrett.proofs.start.start.Symbol.{name as #aalbrett·start·start}
-use Rattle.aalbrett.proofs.start.start.Met as value-thm
+use Rattle.aalbrett.specs.declared.value.Called.{Called}
+use Rattle.aalbrett.proofs.value.Called as K
+use Rattle.aalbrett.proofs.value.Called.Laws as K′
+use Rattle.aalbrett.proofs.value.start as value
+use Rattle.aalbrett.proofs.value.start.Symbol as value-def
+use Rattle.aalbrett.proofs.value.start.Symbol.{name as #aalbrett·value·start}
+use Rattle.aalbrett.proofs.value.start.Met as value-thm
 use Rattle.aalbrett.proofs.aalbrett_start.Key.{name as #aalbrett·aalbrett-start}
 use Rattle.aalbrett.proofs.aalbrett_start as start
 use Rattle.aalbrett.proofs.aalbrett_start.Statement as stated
@@ -93,17 +93,17 @@ module _ {M : Type 1} (𝓤 : URA M) (H : Heap 𝓤) (A : Atoms 𝓤) (W : Given
   goes = qed W (‵ ftrue ∷ ‵ (owns (u64 ∷ u64 ∷ u64 ∷ u64 ∷ u64 ∷ []) five numbers) ∷ []) ∵ join ! $ nothing ! $ move ! (1 ∷ 0 ∷ []) $ done !
 
   -- what is known of a start's result: its number and machine
-  abbrev Gives : Started → Type 0
+  abbrev Gives : Called → Type 0
   Gives r = (r .number ≡ startNumber (registers cr0 cr3 cr4 efer width)) × (r .machine ≡ started (registers cr0 cr3 cr4 efer width) .machine)
 
   -- a result's parts are what they are at their types
-  machine-is : (r : Started) (w : Val) → Is K.the-row r (w ∷ []) → Is T.the-row (r .machine) (mach (r .machine) ∷ [])
+  machine-is : (r : Called) (w : Val) → Is K.the-row r (w ∷ []) → Is T.the-row (r .machine) (mach (r .machine) ∷ [])
   machine-is r w is = LL.owed K.the-type K′.the-laws r _ is .1 .0
 
-  number-is : (r : Started) (w : Val) → Is K.the-row r (w ∷ []) → Is u64 (r .number) (vint w64 (r .number) ∷ [])
+  number-is : (r : Called) (w : Val) → Is K.the-row r (w ∷ []) → Is u64 (r .number) (vint w64 (r .number) ∷ [])
   number-is r w is = LL.owed K.the-type K′.the-laws r _ is .0
 
-  exits : (r : Started) (w : Val) → Is K.the-row r (w ∷ []) → Gives r
+  exits : (r : Called) (w : Val) → Is K.the-row r (w ∷ []) → Gives r
       → ent 𝓤 (⋆ 𝓤 H A (‵ (fobs γ (T.the-row .coded .code (r .machine))) ∷ ‵ (fbor κ (Body (mem T.the-row) b o γ)) ∷ ‵ (flft κ q) ∷ [])) (Post (vint w64 (r .number)))
   exits r w is e =
       qed W (‵ (fobs γ (T.the-row .coded .code (r .machine))) ∷ ‵ (fbor κ (Body (mem T.the-row) b o γ)) ∷ ‵ (flft κ q) ∷ []) ∵
@@ -112,7 +112,7 @@ module _ {M : Type 1} (𝓤 : URA M) (H : Heap 𝓤) (A : Atoms 𝓤) (W : Given
       nothing ! $ nothing ! $ fjoin ! $ nothing ! $ fjoin ! $ nothing ! $ fjoin ! $ nothing ! $ fjoin ! $ nothing ! $ fjoin ! $ move ! (1 ∷ 0 ∷ []) $ fjoin ! $
       owned ! u64 (Is u64) (uint-makes 𝓤 H A W w64) (r .number) _ (number-is r w is) $ move ! (1 ∷ 0 ∷ []) $ done !
 
-  module _ (C : Calls 𝓤 H) (Λ : Loops 𝓤 H) (fm : FmC 𝓤 H (W .laws) C) (known : Triple 𝓤 (C #aalbrett·start·start) (Value 𝓤 H A at-mem run)) where
+  module _ (C : Calls 𝓤 H) (Λ : Loops 𝓤 H) (fm : FmC 𝓤 H (W .laws) C) (known : Triple 𝓤 (C #aalbrett·value·start) (Value 𝓤 H A at-mem run)) where
     walk : cr0 < 2 ^ 64 → cr3 < 2 ^ 64 → cr4 < 2 ^ 64 → efer < 2 ^ 64 → width < 2 ^ 64
         → ent 𝓤 (onEntry 𝓤 H A start.signature (κ, tt) (q, tt) a vals) (WpFn 𝓤 H C Λ code.function (vptr b o ∷ vint w64 cr0 ∷ vint w64 cr3 ∷ vint w64 cr4 ∷ vint w64 efer ∷ vint w64 width ∷ []) Post)
     walk f₀ f₃ f₄ f f′ =
@@ -125,7 +125,7 @@ module _ {M : Type 1} (𝓤 : URA M) (H : Heap 𝓤) (A : Atoms 𝓤) (W : Given
         -- [the cell; what the machine owns; the open borrow; obs; auth; true; the numbers; _7; …; _6; …; _5; …; _4; …; _3; …; _2; …; _1; …; room for _0; …]
         move ! (5 ∷ 6 ∷ []) $ use2 W (raw (Value 𝓤 H A at-mem run .pre to)) goes $
         calls-at ! fm (Value 𝓤 H A at-mem run) known to (and-then ! (load ! (from ! (stop !)) (look ! 16 refl)) (and-then ! (load ! (from ! (stop !)) (look ! 14 refl)) (and-then ! (load ! (from ! (stop !)) (look ! 12 refl)) (and-then ! (load ! (from ! (stop !)) (look ! 10 refl)) (and-then ! (load ! (from ! (stop !)) (look ! 8 refl)) (no-more !)))))) (λ w.
-        use1 W (later (some (λ (r : Started). (‵ ftrue ⊛ ‵ (K.the-row .own r (w ∷ []))) ⊛ raw (ensured 𝓤 H A value.ended (value.clauses 𝓤 H A at-mem run) tt five tt r)))) (id⊢ 𝓤 _) $ await ! tt $ pick ! (λ r.
+        use1 W (later (some (λ (r : Called). (‵ ftrue ⊛ ‵ (K.the-row .own r (w ∷ []))) ⊛ raw (ensured 𝓤 H A value.ended (value.clauses 𝓤 H A at-mem run) tt five tt r)))) (id⊢ 𝓤 _) $ await ! tt $ pick ! (λ r.
         split ! $ move ! (1 ∷ []) $ use1 W (some (λ (zs : Five (Unit {0})). ‵ (lasts value.ended tt five zs) ⊛ raw (fact 𝓤 (Gives r)))) (id⊢ 𝓤 _) $ pick ! (λ zs.
         split ! $ move ! (1 ∷ []) $ heard ! (Gives r) (λ e. drop ! $ split ! $ drop ! $ peeks ! K.the-row (Is K.the-row) (shows 𝓤 H A K.the-row) r (w ∷ []) (λ is.
         land ! (from ! (stop !)) (init ! 6 refl (LL.lawful K.the-type K′.the-laws 𝓤 H A W .typed r _ is .0)) $ rewrite ! 6 (λ (u : Val). ‵ (fat fullShare K′.mir l₇ 0 u)) (ap only (LL.tells K.the-type K′.the-laws r _ is)) refl $
@@ -139,7 +139,7 @@ module _ {M : Type 1} (𝓤 : URA M) (H : Heap 𝓤) (A : Atoms 𝓤) (W : Given
         keep ! (0 ∷ 1 ∷ 2 ∷ []) $ by ! (exits r w is e)))))))))))))))
 
 module _ {M : Type 1} (𝓤 : URA M) (H : Heap 𝓤) (A : Atoms 𝓤) (W : Given 𝓤 H A) (mem : Memory → SProp 𝓤) (run : Routine → Fun 𝓤) where
-  start-walks : (C : Calls 𝓤 H) (Λ : Loops 𝓤 H) → FmC 𝓤 H (W .laws) C → Triple 𝓤 (C #aalbrett·start·start) (Value 𝓤 H A mem run) → Walks 𝓤 H A start.ended stayed (WpFn 𝓤 H C Λ code.function) (start.clauses 𝓤 H A mem run)
+  start-walks : (C : Calls 𝓤 H) (Λ : Loops 𝓤 H) → FmC 𝓤 H (W .laws) C → Triple 𝓤 (C #aalbrett·value·start) (Value 𝓤 H A mem run) → Walks 𝓤 H A start.ended stayed (WpFn 𝓤 H C Λ code.function) (start.clauses 𝓤 H A mem run)
   start-walks C Λ fm known =
       walked 𝓤 H A start.ended stayed (start.clauses 𝓤 H A mem run) (WpFn 𝓤 H C Λ code.function)
       (λ κs. (ptr-vals, (uint-vals w64, (uint-vals w64, (uint-vals w64, (uint-vals w64, (uint-vals w64, tt)))))))
@@ -148,7 +148,7 @@ module _ {M : Type 1} (𝓤 : URA M) (H : Heap 𝓤) (A : Atoms 𝓤) (W : Given
       (walk 𝓤 H A W mem run (κs .0) (qs .0) (a .0 .ptr .0) (a .0 .ptr .1) (a .0 .name) (a .0 .now) (a .1 .0) (a .1 .1 .0) (a .1 .1 .1 .0) (a .1 .1 .1 .1 .0) (a .1 .1 .1 .1 .1 .0) C Λ fm known
       (are .1 .0 .1) (are .1 .1 .0 .1) (are .1 .1 .1 .0 .1) (are .1 .1 .1 .1 .0 .1) (are .1 .1 .1 .1 .1 .0 .1)))
 
-start-meets : {M : Type 1} (𝓤 : URA M) (H : Heap 𝓤) (A : Atoms 𝓤) → Given 𝓤 H A → (mem : Memory → SProp 𝓤) (run : Routine → Fun 𝓤) (𝓣 : Tables 𝓤 H) → Triple 𝓤 (𝓣 .C #aalbrett·start·start) (Value 𝓤 H A mem run)
+start-meets : {M : Type 1} (𝓤 : URA M) (H : Heap 𝓤) (A : Atoms 𝓤) → Given 𝓤 H A → (mem : Memory → SProp 𝓤) (run : Routine → Fun 𝓤) (𝓣 : Tables 𝓤 H) → Triple 𝓤 (𝓣 .C #aalbrett·value·start) (Value 𝓤 H A mem run)
     → Meets 𝓤 H A start.signature (WpFn 𝓤 H (𝓣 .C) (𝓣 .Λ) code.function) (start.spec 𝓤 H A mem run)
 start-meets 𝓤 H A W mem run 𝓣 known =
     let number = goes-dropped 𝓤 H A W 1 (plain (λ _. u64)) yes (λ κs x f. refl) in
@@ -161,4 +161,4 @@ aalbrett-start-spec 𝓤 H 𝓜 𝓖 𝓡 =
     entered 𝓤 H (tripleOf 𝓤 H (𝓖 .A) start.signature (start.spec 𝓤 H (𝓖 .A) (𝓜 .mem) (𝓡 .run)))
     (tables 𝓤 H 𝓜 𝓡 code.env .C) (tables 𝓤 H 𝓜 𝓡 code.env .Λ) #aalbrett·aalbrett-start code.function (code.unfolded 𝓤 H 𝓜 𝓡)
     (start-meets 𝓤 H (𝓖 .A) (givenOf 𝓤 H 𝓜 𝓖) (𝓜 .mem) (𝓡 .run) (tablesOf 𝓤 H 𝓜 (tables 𝓤 H 𝓜 𝓡 code.env))
-    (cited 𝓤 H (Value 𝓤 H (𝓖 .A) (𝓜 .mem) (𝓡 .run)) 𝓜 𝓡 code.env #aalbrett·start·start value-def.routine code.calls-aalbrett·start·start (value-thm.met 𝓤 H 𝓜 𝓖 𝓡)))
+    (cited 𝓤 H (Value 𝓤 H (𝓖 .A) (𝓜 .mem) (𝓡 .run)) 𝓜 𝓡 code.env #aalbrett·value·start value-def.routine code.calls-aalbrett·value·start (value-thm.met 𝓤 H 𝓜 𝓖 𝓡)))

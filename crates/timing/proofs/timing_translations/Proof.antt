@@ -4,7 +4,6 @@ use native.Mathlib.Omega.{arith}
 use mathlib.Core.Path.{_≡_, ap, _∙_}
 use mathlib.Core.Logic.{⊎-elim}
 use Rattle.cache.specs.declared.Cache.{Cache}
-use Rattle.cache.specs.declared.Drop.the-variants.{Page}
 use Rattle.cache.proofs.Laws.{drop-sixteen}
 use borrow.Author.Needs.{needs}
 use lib.ListN.{length, length-set}
@@ -83,8 +82,8 @@ element-set-from-filled c = search needs
 enum-told : tie.Need-enum-told Inv-loop μ-loop
 enum-told c = search needs
 
-tag-requires-2 : tie.Need-tag-requires-2 Inv-loop μ-loop
-tag-requires-2 c κs = search needs
+page-drop-requires : tie.Need-page-drop-requires Inv-loop μ-loop
+page-drop-requires c κs = search needs
 
 drop-requires : tie.Need-drop-requires Inv-loop μ-loop
 drop-requires c κs = search needs
@@ -92,8 +91,8 @@ drop-requires c κs = search needs
 enum-told-2 : tie.Need-enum-told-2 Inv-loop μ-loop
 enum-told-2 c = search needs
 
-tag-requires-3 : tie.Need-tag-requires-3 Inv-loop μ-loop
-tag-requires-3 c κs = search needs
+page-drop-requires-2 : tie.Need-page-drop-requires-2 Inv-loop μ-loop
+page-drop-requires-2 c κs = search needs
 
 drop-requires-2 : tie.Need-drop-requires-2 Inv-loop μ-loop
 drop-requires-2 c κs = search needs
@@ -121,12 +120,12 @@ loop-again c =
     (⊎-elim
     (λ w. (
       ap length (w .13) ∙ (w .5 .given ∙ i .0),
-      ap (λ (x : Cache). length (x .sets)) (w .14 ∙ w .12 .ensures) ∙ drop-sixteen (Page (w .11 .result)) (record { sets = sets }),
+      ap (λ (x : Cache). length (x .sets)) (w .14 ∙ w .12 .ensures) ∙ drop-sixteen (w .11 .result) (record { sets = sets }),
       next,
     ))
     (λ w. (
       ap length (w .13) ∙ (w .5 .given ∙ i .0),
-      ap (λ (x : Cache). length (x .sets)) (w .14 ∙ w .12 .ensures) ∙ drop-sixteen (Page (w .11 .result)) (record { sets = sets }),
+      ap (λ (x : Cache). length (x .sets)) (w .14 ∙ w .12 .ensures) ∙ drop-sixteen (w .11 .result) (record { sets = sets }),
       next,
     ))))
     (c .match .came)
@@ -165,10 +164,10 @@ timing-translations-spec =
     mul-filled
     element-set-from-filled
     enum-told
-    tag-requires-2
+    page-drop-requires
     drop-requires
     enum-told-2
-    tag-requires-3
+    page-drop-requires-2
     drop-requires-2
     add-n
     loop-less

@@ -40,6 +40,16 @@ extern "C" {
         answer_length: usize,
     ) -> u64;
 
+    /// INVPCID on a machine, in place.
+    pub fn aalbrett_invpcid(
+        machine: *mut Machine,
+        kind: u64,
+        number: u64,
+        address: u64,
+        answer: *mut u8,
+        answer_length: usize,
+    ) -> u64;
+
     /// A loop of remembered translations by value, to be timed; it is in libtiming.a alone.
     pub fn timing_translations(
         cr0: u64,

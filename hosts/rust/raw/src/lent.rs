@@ -1,6 +1,6 @@
 //! The calls on what Rust lends them; each gives the answer's number.
 
-use crate::{aalbrett_start, aalbrett_step, aalbrett_walk, Machine, Settings};
+use crate::{aalbrett_invpcid, aalbrett_start, aalbrett_step, aalbrett_walk, Machine, Settings};
 
 /// One uncached walk of guest memory; address, access and mode are what is asked.
 #[inline]
@@ -57,6 +57,23 @@ pub fn step(machine: &mut Machine, memory: &mut [u8], card: &[u8], answer: &mut 
             memory.len(),
             card.as_ptr(),
             card.len(),
+            answer.as_mut_ptr(),
+            answer.len(),
+        )
+    }
+}
+
+/// INVPCID on a machine: kind, space number and address.
+#[inline]
+pub fn invpcid(machine: &mut Machine, [kind, number, address]: [u64; 3], answer: &mut [u8]) -> u64 {
+    // SAFETY: the record has the archive's layout and may hold anything; both are lent for the call,
+    // the slice with its own length, and do not overlap.
+    unsafe {
+        aalbrett_invpcid(
+            machine,
+            kind,
+            number,
+            address,
             answer.as_mut_ptr(),
             answer.len(),
         )

@@ -6,6 +6,7 @@ mod calls;
 mod lent;
 mod record;
 
-pub use calls::{aalbrett_start, aalbrett_step, aalbrett_walk, timing_translations};
-pub use lent::{start, step, walk};
+pub use calls::timing_translations;
+pub use calls::{aalbrett_invpcid, aalbrett_start, aalbrett_step, aalbrett_walk};
+pub use lent::{invpcid, start, step, walk};
 pub use record::{Machine, Place, Settings};

@@ -22,6 +22,7 @@ pub struct Place {
     pub size: u8,
     pub flags: u8,
     pub memory_type: u8,
+    pub number: u16,
 }
 
 /// The bits of a place's flags: its rights, D, G, and that it is marked; the other two count for nothing.
@@ -56,4 +57,5 @@ const _: () = {
     assert!(offset_of!(Place, size) == 16);
     assert!(offset_of!(Place, flags) == 17);
     assert!(offset_of!(Place, memory_type) == 18);
+    assert!(offset_of!(Place, number) == 20);
 };

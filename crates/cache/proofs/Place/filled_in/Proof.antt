@@ -9,7 +9,7 @@ set-of-requires c κs = search needs
 
 returns : tie.Need-returns
 unfolding filledIn
-returns c = let b = c .before .before .before .before .before .before in rw (← (b .set-of .ensures))
+returns c = let b = c .before .before .before .before .before .before .before in rw (← (b .set-of .ensures))
 
 pub filled-in-spec : {M : Type 1} → statement M
 filled-in-spec = tie.close (tie.spec set-of-requires returns)

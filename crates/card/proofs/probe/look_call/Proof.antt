@@ -42,6 +42,12 @@ enum-told-5 c = search needs
 unseen-requires-5 : tie.Need-unseen-requires-5
 unseen-requires-5 c κs = search needs
 
+enum-told-6 : tie.Need-enum-told-6
+enum-told-6 c = search needs
+
+unseen-requires-6 : tie.Need-unseen-requires-6
+unseen-requires-6 c κs = search needs
+
 returns : tie.Need-returns
 returns c = rw (c .seen-by .ensures, c .before .probe .ensures, c .before .before .before .call .given .1)
 
@@ -60,6 +66,9 @@ returns-5 c = search needs
 returns-6 : tie.Need-returns-6
 returns-6 c = search needs
 
+returns-7 : tie.Need-returns-7
+returns-7 c = search needs
+
 pub look-call-spec : {M : Type 1} → statement M
 look-call-spec =
     tie.close
@@ -77,9 +86,12 @@ look-call-spec =
     unseen-requires-4
     enum-told-5
     unseen-requires-5
+    enum-told-6
+    unseen-requires-6
     returns
     returns-2
     returns-3
     returns-4
     returns-5
-    returns-6)
+    returns-6
+    returns-7)

@@ -16,8 +16,8 @@ returns : tie.Need-returns
 unfolding pageDropped
 returns c = rw (c .done .ensures, sym (c .before .before .canonical .ensures) ∙ not-true _ (c .before .if1 .taken))
 
-tag-requires : tie.Need-tag-requires
-tag-requires c κs = search needs
+page-drop-requires : tie.Need-page-drop-requires
+page-drop-requires c κs = search needs
 
 drop-requires : tie.Need-drop-requires
 drop-requires c κs = search needs
@@ -28,7 +28,7 @@ done-requires-2 c κs = search needs
 returns-2 : tie.Need-returns-2
 unfolding pageDropped
 returns-2 c =
-    rw (c .done2 .ensures, c .before .drop .ensures, c .before .before .tag .ensures, sym (c .before .before .before .before .before .before .canonical .ensures) ∙ not-false _ (c .before .before .before .before .before .if1 .left))
+    rw (c .done2 .ensures, c .before .drop .ensures, c .before .before .page-drop .ensures, sym (c .before .before .before .before .before .before .canonical .ensures) ∙ not-false _ (c .before .before .before .before .before .if1 .left))
 
 pub drop-page-spec : {M : Type 1} → statement M
 drop-page-spec =
@@ -37,7 +37,7 @@ drop-page-spec =
     canonical-requires
     done-requires
     returns
-    tag-requires
+    page-drop-requires
     drop-requires
     done-requires-2
     returns-2)

@@ -42,6 +42,12 @@ enum-told c = search needs
 drop-all-requires : tie.Need-drop-all-requires
 drop-all-requires c κs = search needs
 
+enum-known-call-6 : tie.Need-enum-known-call-6
+enum-known-call-6 c = search needs
+
+invpcid-requires : tie.Need-invpcid-requires
+invpcid-requires c κs = search needs
+
 same-length : tie.Need-same-length
 same-length c = search needs
 
@@ -72,6 +78,10 @@ returns-6 : tie.Need-returns-6
 unfolding step
 returns-6 c = rw (c .before .enum-told .given .1) (gives-same (ap (withMemory (c .before .before .before .before .args .memory .now)) (c .drop-all .ensures)))
 
+returns-7 : tie.Need-returns-7
+unfolding step
+returns-7 c = rw (c .before .before .call6 .given .1) (gives-same (ap (withMemory (c .before .before .before .before .before .args .memory .now)) (c .invpcid .ensures)))
+
 pub step-spec : {M : Type 1} → statement M
 step-spec =
     tie.close
@@ -88,6 +98,8 @@ step-spec =
     drop-page-requires
     enum-told
     drop-all-requires
+    enum-known-call-6
+    invpcid-requires
     same-length
     returns
     same-length-2
@@ -95,4 +107,5 @@ step-spec =
     returns-3
     returns-4
     returns-5
-    returns-6)
+    returns-6
+    returns-7)

@@ -46,8 +46,8 @@ element-set-from-filled c = search needs
 enum-told : tie.Need-enum-told
 enum-told c = search needs
 
-tag-requires-2 : tie.Need-tag-requires-2
-tag-requires-2 c κs = search needs
+page-drop-requires : tie.Need-page-drop-requires
+page-drop-requires c κs = search needs
 
 drop-requires : tie.Need-drop-requires
 drop-requires c κs = search needs
@@ -55,8 +55,8 @@ drop-requires c κs = search needs
 enum-told-2 : tie.Need-enum-told-2
 enum-told-2 c = search needs
 
-tag-requires-3 : tie.Need-tag-requires-3
-tag-requires-3 c κs = search needs
+page-drop-requires-2 : tie.Need-page-drop-requires-2
+page-drop-requires-2 c κs = search needs
 
 drop-requires-2 : tie.Need-drop-requires-2
 drop-requires-2 c κs = search needs
@@ -91,7 +91,7 @@ returns-3 c =
     let a = p .before .before .before .before .before .before .before .args in
     walked-law (a .self) (a .memory .now) (a .address) (a .access) (a .mode) (p .before .before .before .tag .result) (p .before .before .before .tag .ensures) (p .before .before .set-of .result) (p .before .before .set-of .ensures) (p .probe .result) (p .probe .ensures)
     (w .before .before .before .way .given .0 .0) (w .before .before .before .way .given .1) (w .walk .result) (w .walk .ensures .0) (c .before .before .before .before .answer2 .result) (c .before .before .before .before .answer2 .ensures)
-    (c .drop .result) (rw (c .drop .ensures, c .before .tag2 .ensures, c .before .before .enum-told .given .1))
+    (c .drop .result) (rw (c .drop .ensures, c .before .page-drop .ensures, c .before .before .enum-told .given .1))
     (w .walk .last .0) (w .walk .ensures .1)
 
 same-length-3 : tie.Need-same-length-3
@@ -104,7 +104,7 @@ returns-4 c =
     let a = p .before .before .before .before .before .before .before .args in
     walked-law (a .self) (a .memory .now) (a .address) (a .access) (a .mode) (p .before .before .before .tag .result) (p .before .before .before .tag .ensures) (p .before .before .set-of .result) (p .before .before .set-of .ensures) (p .probe .result) (p .probe .ensures)
     (w .before .before .before .way .given .0 .0) (w .before .before .before .way .given .1) (w .walk .result) (w .walk .ensures .0) (c .before .before .before .before .answer2 .result) (c .before .before .before .before .answer2 .ensures)
-    (c .drop2 .result) (rw (c .drop2 .ensures, c .before .tag3 .ensures, c .before .before .enum-told2 .given .1))
+    (c .drop2 .result) (rw (c .drop2 .ensures, c .before .page-drop2 .ensures, c .before .before .enum-told2 .given .1))
     (w .walk .last .0) (w .walk .ensures .1)
 
 pub translate-spec : {M : Type 1} → statement M
@@ -125,10 +125,10 @@ translate-spec =
     mul-filled
     element-set-from-filled
     enum-told
-    tag-requires-2
+    page-drop-requires
     drop-requires
     enum-told-2
-    tag-requires-3
+    page-drop-requires-2
     drop-requires-2
     returns
     same-length

@@ -45,32 +45,36 @@ tag-requires c κs = search needs
 memory-type-requires : tie.Need-memory-type-requires
 memory-type-requires c κs = search needs
 
+space-number-requires : tie.Need-space-number-requires
+space-number-requires c κs = search needs
+
 flag-requires : tie.Need-flag-requires
 flag-requires c κs = search needs
-
-add-t21 : tie.Need-add-t21
-add-t21 c = search needs
 
 add-t22 : tie.Need-add-t22
 add-t22 c = search needs
 
+add-t23 : tie.Need-add-t23
+add-t23 c = search needs
+
 returns : tie.Need-returns
 returns c =
     rw (
-      c .before .before .tag .ensures,
-      c .before .before .before .before .before .before .before .before .before .before .before .frame .ensures,
-      c .before .before .before .before .before .before .before .before .before .before .before .before .plus .ensures,
-      c .before .before .before .before .before .before .before .before .before .before .before .before .before .offset .ensures,
+      c .before .before .before .tag .ensures,
+      c .before .before .before .before .before .before .before .before .before .before .before .before .frame .ensures,
+      c .before .before .before .before .before .before .before .before .before .before .before .before .before .plus .ensures,
+      c .before .before .before .before .before .before .before .before .before .before .before .before .before .before .offset .ensures,
       c .flag .ensures .0,
-      c .before .before .before .flags .ensures .0,
-      c .before .before .before .before .before .before .before .bit3 .ensures,
-      c .before .before .before .before .before .before .bit4 .ensures,
-      c .before .before .before .before .before .bit5 .ensures,
-      c .before .before .before .before .before .before .before .before .bit2 .ensures,
-      c .before .before .before .before .writes .ensures,
-      c .before .before .before .before .before .before .before .before .before .before .bit .ensures,
-      c .before .before .before .before .before .before .before .before .before .pge .ensures,
-      c .before .memory-type .ensures .0,
+      c .before .space-number .ensures,
+      c .before .before .before .before .flags .ensures .0,
+      c .before .before .before .before .before .before .before .before .bit3 .ensures,
+      c .before .before .before .before .before .before .before .bit4 .ensures,
+      c .before .before .before .before .before .before .bit5 .ensures,
+      c .before .before .before .before .before .before .before .before .before .bit2 .ensures,
+      c .before .before .before .before .before .writes .ensures,
+      c .before .before .before .before .before .before .before .before .before .before .before .bit .ensures,
+      c .before .before .before .before .before .before .before .before .before .before .pge .ensures,
+      c .before .before .memory-type .ensures .0,
     )
 
 pub place-of-spec : {M : Type 1} → statement M
@@ -91,7 +95,8 @@ place-of-spec =
     flags-requires
     tag-requires
     memory-type-requires
+    space-number-requires
     flag-requires
-    add-t21
     add-t22
+    add-t23
     returns)

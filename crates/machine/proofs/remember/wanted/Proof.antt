@@ -18,8 +18,13 @@ writes-requires c κs = search needs
 flags-requires : tie.Need-flags-requires
 flags-requires c κs = search needs
 
+space-number-requires : tie.Need-space-number-requires
+space-number-requires c κs = search needs
+
 returns : tie.Need-returns
-returns c = rw (c .before .before .before .tag .ensures, c .flags .ensures .0, c .before .before .before .before .needs-write .ensures, c .before .before .fetches .ensures, c .before .writes .ensures)
+returns c =
+    let b = c .before in
+    rw (b .before .before .before .tag .ensures, b .flags .ensures .0, b .before .before .before .before .needs-write .ensures, b .before .before .fetches .ensures, b .before .writes .ensures, c .space-number .ensures)
 
 pub wanted-spec : {M : Type 1} → statement M
 wanted-spec =
@@ -30,4 +35,5 @@ wanted-spec =
     fetches-requires
     writes-requires
     flags-requires
+    space-number-requires
     returns)

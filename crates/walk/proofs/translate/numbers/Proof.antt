@@ -33,6 +33,12 @@ enum-known-answer-3 c = search needs
 enum-known-answer-4 : tie.Need-enum-known-answer-4
 enum-known-answer-4 c = search needs
 
+enum-told-3 : tie.Need-enum-told-3
+enum-told-3 c = search needs
+
+refusal-requires-4 : tie.Need-refusal-requires-4
+refusal-requires-4 c κs = search needs
+
 returns : tie.Need-returns
 returns c = rw (c .before .answer .given .1)
 
@@ -51,6 +57,9 @@ returns-5 c = rw (c .before .answer3 .given .1)
 returns-6 : tie.Need-returns-6
 returns-6 c = rw (c .before .answer4 .given .1)
 
+returns-7 : tie.Need-returns-7
+returns-7 c = rw (c .before .enum-told3 .given .1) (c .refusal4 .ensures)
+
 pub numbers-spec : {M : Type 1} → statement M
 numbers-spec =
     tie.close
@@ -65,9 +74,12 @@ numbers-spec =
     refusal-requires-3
     enum-known-answer-3
     enum-known-answer-4
+    enum-told-3
+    refusal-requires-4
     returns
     returns-2
     returns-3
     returns-4
     returns-5
-    returns-6)
+    returns-6
+    returns-7)

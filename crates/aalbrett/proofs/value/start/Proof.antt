@@ -1,7 +1,7 @@
--- `start::start` meets its contract.
+-- `value::start` meets its contract.
 use borrow.Author.Needs.{needs}
-use Rattle.aalbrett.proofs.start.start.Statement.{statement}
-use Rattle.aalbrett.proofs.start.start.Tie as tie
+use Rattle.aalbrett.proofs.value.start.Statement.{statement}
+use Rattle.aalbrett.proofs.value.start.Tie as tie
 
 start-requires : tie.Need-start-requires
 start-requires c κs = search needs
