@@ -1,4 +1,6 @@
 // The host's entries: numbers, a lent machine, lent guest memory and a lent answer buffer.
+#![tactic(auto)]
+
 ghost use Rattle.std.specs.Prelude.{◌≡◌};
 ghost use Rattle.machine.specs.Calls.{invalidated};
 ghost use Rattle.aalbrett.specs.Host as spec;

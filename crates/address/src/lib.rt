@@ -1,20 +1,22 @@
 // Virtual addresses, physical addresses and frame numbers, kept apart, with the named sums of them.
+#![tactic(auto)]
+
 ghost use Rattle.std.specs.Prelude.{◌≡◌};
 ghost use Rattle.address.specs.Address as spec;
 
 use std::num::wrapping_add_u64;
 
 // An address that a program uses.
-#[derive(Drop)]
+#[derive(Clone, Copy)]
 pub struct VirtAddr(pub u64);
 
 // An address of guest memory.
-#[derive(Drop)]
+#[derive(Clone, Copy)]
 pub struct PhysAddr(pub u64);
 
 // The number of a 4 KiB frame of guest memory.
 #[repr(C)]
-#[derive(Drop)]
+#[derive(Clone, Copy)]
 pub struct Frame(pub u64);
 
 // The entries in a table, and so the pages of a level in one of the next.

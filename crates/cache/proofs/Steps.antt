@@ -8,7 +8,7 @@ use mathlib.Core.Bool.{Bool, true, false, ◌&&◌}
 use mathlib.Core.List.{List, [], ◌∷◌, ◌++◌, append-nil, append_assoc}
 use borrow.Author.Tests.{ne_eqb}
 use lib.ListN.{length, get_or, set, drop, length-append, drop_of_length-le, get_or-append}
-use lib.Seq.{drop-cons, get_or_at, set_at}
+use lib.Seq.{drop-cons, get_or_at, set_at as set_at_lem}
 use Rattle.cache.specs.declared.Place.{Place}
 use Rattle.cache.specs.declared.Set.{Set}
 use Rattle.cache.specs.declared.Wanted.{Wanted}
@@ -181,7 +181,7 @@ next f l k d small =
 stored : (f : ℕ → Set) (l : List Set) (k : ℕ) (d : Set) → k < length l → set (sets_below k f ++ drop k l) k (f k) ≡ sets_below (suc k) f ++ drop (suc k) l
 stored f l k d small =
     ap (λ (t : List Set). set (sets_below k f ++ t) k (f k)) (drop-cons l k d small)
-    ∙ set_at (sets_below k f) (get_or l k d) (drop (suc k) l) (f k) k (sets_below_length k f)
+    ∙ set_at_lem (sets_below k f) (get_or l k d) (drop (suc k) l) (f k) k (sets_below_length k f)
     ∙ sym (append_assoc (sets_below k f) (f k ∷ []) (drop (suc k) l))
 
 -- one more set is rewritten

@@ -1,4 +1,6 @@
 // The cache: 16 sets of four places, each a 4 KiB piece of a page; lookup, fill and drops, all by value.
+#![tactic(auto)]
+
 pub mod places;
 pub mod sets;
 pub mod whole;
@@ -7,7 +9,7 @@ use address::Frame;
 
 // A remembered translation of one 4 KiB piece; its flags are bits, so that any bytes are a place.
 #[repr(C)]
-#[derive(Drop)]
+#[derive(Clone, Copy)]
 pub struct Place {
     pub tag: u64,
     pub frame: Frame,
@@ -19,20 +21,20 @@ pub struct Place {
 
 // Four places, the one filled last in front.
 #[repr(C)]
-#[derive(Drop)]
+#[derive(Clone, Copy)]
 pub struct Set {
     pub places: [Place; 4],
 }
 
 // The sets, each at its number.
 #[repr(C)]
-#[derive(Drop)]
+#[derive(Clone, Copy)]
 pub struct Cache {
     pub sets: [Set; 16],
 }
 
 // What a translation wants of a place: its tag, the flags that it must have, and the present space number.
-#[derive(Drop)]
+#[derive(Clone, Copy)]
 pub struct Wanted {
     pub tag: u64,
     pub flags: u8,
@@ -40,7 +42,7 @@ pub struct Wanted {
 }
 
 // What a drop takes: each place whose own page contains a page, by its tag, of a space number and G, or of the number alone; a number's without G; all without G; all; none.
-#[derive(Drop)]
+#[derive(Clone, Copy)]
 pub enum Drop {
     Page(u64, u16),
     Piece(u64, u16),
@@ -51,7 +53,7 @@ pub enum Drop {
 }
 
 // What a lookup finds.
-#[derive(Drop)]
+#[derive(Clone, Copy)]
 pub enum Found {
     At(Place),
     Nothing,

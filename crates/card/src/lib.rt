@@ -1,4 +1,6 @@
 // Exercise cards: 32 bytes to a call of the machine, one card's step.
+#![tactic(auto)]
+
 use machine::{Call, Machine};
 use walk::Numbers;
 

@@ -1,4 +1,6 @@
 // One table entry: reading it, what it says at its level, its rights, its memory type, marking it.
+#![tactic(auto)]
+
 pub mod bits;
 pub mod mark;
 pub mod meaning;
@@ -9,7 +11,7 @@ pub mod rights;
 use address::PhysAddr;
 
 // What an entry says at its level.
-#[derive(Drop)]
+#[derive(Clone, Copy)]
 pub enum Says {
     Missing,
     Reserved,

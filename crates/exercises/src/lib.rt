@@ -1,1 +1,2 @@
 // The starred exercises: one list, under one statement about the rules.
+#![tactic(auto)]

@@ -1,4 +1,6 @@
 // The machine: settings and cache together, and every call of it by value over lent memory.
+#![tactic(auto)]
+
 use address::VirtAddr;
 use cache::Cache;
 use settings::Settings;

@@ -1,4 +1,6 @@
 // Playing a deck of exercise cards: cards in on standard input, a line for each out.
+#![tactic(auto)]
+
 ghost use Rattle.std.specs.Prelude.{◌≡◌, ◌+◌, ◌^◌, ◌≤◌, ◌<◌, min, length};
 
 use crate::line::put_line;

@@ -1,4 +1,6 @@
 // The settings record: control registers and physical width, its named bits, and what is served.
+#![tactic(auto)]
+
 ghost use Rattle.std.specs.Prelude.{◌≡◌};
 ghost use Rattle.settings.specs.Settings as spec;
 
@@ -7,7 +9,7 @@ use word::bits::{bit, field};
 
 // CR0, CR3, CR4, EFER and the physical width M.
 #[repr(C)]
-#[derive(Drop)]
+#[derive(Clone, Copy)]
 pub struct Settings {
     pub cr0: u64,
     pub cr3: u64,
@@ -17,7 +19,7 @@ pub struct Settings {
 }
 
 // What is wrong with a settings record that is not served: the width, the root for it, paging on without PE, PAE or LME, an extension bit, address-space numbers.
-#[derive(Drop)]
+#[derive(Clone, Copy)]
 pub enum Unserved {
     Width,
     Root,
@@ -27,7 +29,7 @@ pub enum Unserved {
 }
 
 // Whether a settings record is served.
-#[derive(Drop)]
+#[derive(Clone, Copy)]
 pub enum Service {
     Served,
     NotServed(Unserved),

@@ -1,4 +1,6 @@
 // A loop of remembered translations that keeps the machine in a local, for the speed command alone.
+#![tactic(auto)]
+
 use address::VirtAddr;
 use cache::Cache;
 use machine::Probed;

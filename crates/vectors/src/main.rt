@@ -1,4 +1,6 @@
 // Runs document 01's examples of one settings record, one address and one entry, and its exercises, a line each.
+#![tactic(auto)]
+
 mod addresses;
 mod entries;
 mod print;

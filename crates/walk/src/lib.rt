@@ -1,4 +1,6 @@
 // The four-level walk, and one uncached translation.
+#![tactic(auto)]
+
 use address::PhysAddr;
 use settings::Unserved;
 

@@ -1,4 +1,6 @@
 // The second program's walks: records from standard input, a line for each to standard output.
+#![tactic(auto)]
+
 use crate::line::{print_answer, print_changes};
 use crate::record::{SIZE, lay_out, length, number, registers};
 use address::VirtAddr;

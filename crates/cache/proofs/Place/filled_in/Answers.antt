@@ -1,0 +1,7 @@
+-- `Place::filled_in` meets its contract.
+use Rattle.cache.specs.Places.{filled_in}
+use Rattle.cache.proofs.Place.filled_in.Goals as goal
+
+pub returns : goal.returns
+unfolding filled_in
+returns c = let b = c in rw (← b.set_of-own.ensures)
