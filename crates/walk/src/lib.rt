@@ -10,7 +10,7 @@ pub mod walk;
 pub mod ways;
 
 // "Access is 0 read, 1 write, 2 fetch."
-#[derive(Drop)]
+#[derive(Clone, Copy)]
 pub enum Access {
     Read,
     Write,
@@ -18,14 +18,14 @@ pub enum Access {
 }
 
 // The way in which memory is asked: the access, and whether the mode is user.
-#[derive(Drop)]
+#[derive(Clone, Copy)]
 pub struct Way {
     pub access: Access,
     pub user: bool,
 }
 
 // What a walk that succeeds finds: the page's base and size, its last entry as read, the rights of all entries and the entries read.
-#[derive(Drop)]
+#[derive(Clone, Copy)]
 pub struct Mapping {
     pub base: PhysAddr,
     pub size: u8,
@@ -35,7 +35,7 @@ pub struct Mapping {
 }
 
 // Why a walk ends in a page fault, with the level to report.
-#[derive(Drop)]
+#[derive(Clone, Copy)]
 pub enum Cause {
     Missing(u64),
     Reserved(u64),
@@ -43,7 +43,7 @@ pub enum Cause {
 }
 
 // How a walk ends; a fault and an entry outside memory tell the entries read last.
-#[derive(Drop)]
+#[derive(Clone, Copy)]
 pub enum Walked {
     Mapped(Mapping),
     Refused(Cause, u64),
@@ -51,7 +51,7 @@ pub enum Walked {
 }
 
 // What the tests before a walk find.
-#[derive(Drop)]
+#[derive(Clone, Copy)]
 pub enum Asked {
     Unknown,
     NotServed(Unserved),
@@ -61,7 +61,7 @@ pub enum Asked {
 }
 
 // What a translation gives: the physical address, the page's size and memory type index, and the entries read.
-#[derive(Drop)]
+#[derive(Clone, Copy)]
 pub struct Translation {
     pub address: PhysAddr,
     pub size: u64,
@@ -70,7 +70,7 @@ pub struct Translation {
 }
 
 // What a call is answered: a translation, a refusal, or address and level, or code and level, each with the entries read.
-#[derive(Drop)]
+#[derive(Clone, Copy)]
 pub enum Answer {
     Done(Translation),
     Unknown,
@@ -82,7 +82,7 @@ pub enum Answer {
 }
 
 // The five numbers of an answer.
-#[derive(Drop)]
+#[derive(Clone, Copy)]
 pub struct Numbers {
     pub answer: u64,
     pub value: u64,
