@@ -14,7 +14,7 @@ use walk::Numbers;
 use walk::translate::{numbers, refusal};
 
 // Whether a card is answered with nothing changed, and then its numbers.
-#[derive(Drop)]
+#[derive(Clone, Copy)]
 pub struct Seen {
     pub answered: bool,
     pub numbers: Numbers,

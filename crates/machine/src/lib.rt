@@ -12,14 +12,14 @@ pub mod translate;
 
 // Settings and what is remembered.
 #[repr(C)]
-#[derive(Drop)]
+#[derive(Clone, Copy)]
 pub struct Machine {
     pub settings: Settings,
     pub cache: Cache,
 }
 
 // A call: a translation (address, access, mode), a store (address, value), the loads (CR3; CR0, CR4, EFER, M), the drops, INVPCID (kind, space number, address).
-#[derive(Drop)]
+#[derive(Clone, Copy)]
 pub enum Call {
     Translate(VirtAddr, u64, u64),
     Store(u64, u64),
@@ -31,14 +31,14 @@ pub enum Call {
 }
 
 // What a call gives beside memory: the answer and the machine afterwards.
-#[derive(Drop)]
+#[derive(Clone, Copy)]
 pub struct Stepped {
     pub answer: Answer,
     pub machine: Machine,
 }
 
 // What a translation finds before it walks: its answer, or that it has to walk.
-#[derive(Drop)]
+#[derive(Clone, Copy)]
 pub enum Probed {
     Answered(Answer),
     Walk(Way),
