@@ -12,7 +12,7 @@ use settings::Settings;
 use walk::translate::numbers;
 
 // What a call gives beside what is lent: the answer's number and the machine afterwards.
-#[derive(Drop)]
+#[derive(Clone, Copy)]
 pub struct Called {
     pub number: u64,
     pub machine: Machine,
