@@ -2,9 +2,9 @@
  * Aalbrett for a host in C: the paging part of an x86-64 board emulator.
  *
  * Link with the archive libaalbrett.a alone; it calls nothing of the host and of the C library only
- * memcpy, keeps nothing of its own between calls, and allocates nothing:
+ * memcpy and memset, keeps nothing of its own between calls, and allocates nothing:
  *
- *     rt staticlib aalbrett                       writes target/staticlib/libaalbrett.a
+ *     tools/staticlib aalbrett                    writes target/staticlib/libaalbrett.a
  *     cc -I hosts host.c target/staticlib/libaalbrett.a -o host
  *
  * The archive is for x86-64, System V calling convention. Calls from several threads at once are

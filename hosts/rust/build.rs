@@ -3,7 +3,7 @@
 use std::env;
 use std::path::Path;
 
-/// Names the folder of the archive: AALBRETT_LIBRARY, or where `rt staticlib aalbrett` writes it.
+/// Names the folder of the archive: AALBRETT_LIBRARY, or where `tools/staticlib aalbrett` writes it.
 fn main() {
     let package = env::var("CARGO_MANIFEST_DIR").unwrap_or_default();
     let folder = env::var("AALBRETT_LIBRARY").unwrap_or_else(|_| "../../target/staticlib".into());
