@@ -1,6 +1,8 @@
 // The program that plays a deck of exercise cards.
 #![tactic(auto)]
 
-fn main() {
-    play::deck();
+use std::io;
+
+fn main(rt: HostRuntime) -> io::Result<()> {
+    play::deck(&mut rt.reader(), &mut io::writer(&rt))
 }

@@ -3,12 +3,15 @@
 
 ghost use Rattle.std.specs.Prelude.{◌≡◌, ◌+◌, ◌^◌, ◌≤◌, ◌<◌, min, length};
 
+use crate::input::read_full;
 use crate::line::put_line;
 use card::lent::turn;
-use libc::{STDIN_FILENO, STDOUT_FILENO};
 use machine::Machine;
 use settings::Settings;
+use std::io;
+use std::io::{Read, Write};
 
+mod input;
 mod line;
 
 // The bytes of guest memory.
@@ -72,34 +75,41 @@ fn play(
 
 // Reads some cards, plays them and writes their lines; the input has ended where fewer came than were asked for.
 // "The deck is standard input."; "an empty deck prints nothing", since no card is played.
-fn read(machine: Machine, memory: &mut [u8; MEMORY], number: u64) -> Progress
+fn read<R: Read, W: Write>(
+    input: &mut R,
+    output: &mut W,
+    machine: Machine,
+    memory: &mut [u8; MEMORY],
+    number: u64,
+) -> io::Result<Progress>
     requires { number + 128 < 2 ^ 64 }
 {
     let mut cards = [0u8; INPUT];
-    let got = io::read_full(STDIN_FILENO, &mut cards);
+    let got = read_full(input, &mut cards)?;
     let mut text = [0u8; OUTPUT];
     let played = play(machine, memory, &cards[0..got], number, &mut text);
     let used = played.used;
-    io::write_all(STDOUT_FILENO, &text[0..used]);
+    output.write_all(&text[0..used])?;
     let next = played.machine;
-    Progress {
+    Ok(Progress {
         machine: next,
         more: got == INPUT,
-    }
+    })
 }
 
 // Plays a deck on memory of zeros, registers 0 and M = 40; the cards left are counted down from a number that no deck uses up.
-pub fn deck() {
+pub fn deck<R: Read, W: Write>(input: &mut R, output: &mut W) -> io::Result<()> {
     let mut memory = [0u8; MEMORY];
     let started = Machine::start(Settings::initial());
     let mut machine = started.machine;
     let mut left = u64::MAX - 1;
     while 256 < left {
-        let done = read(machine, &mut memory, u64::MAX - left);
+        let done = read(input, output, machine, &mut memory, u64::MAX - left)?;
         machine = done.machine;
         if !done.more {
-            return;
+            return Ok(());
         }
         left -= 128;
     }
+    Ok(())
 }

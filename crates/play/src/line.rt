@@ -1,5 +1,6 @@
 // The line of one card: its number from 1, answer, value in 16 hexadecimal digits, detail, entries read, memory type.
-ghost use Rattle.std.specs.Prelude.{◌≡◌, ◌+◌, ◌≤◌, length};
+ghost use Rattle.std.specs.Prelude.{◌≡◌, ◌+◌, ◌≤◌, ◌<◌, false, length};
+ghost use Rattle.std.specs.Fmt.{digit_glyph};
 
 use walk::Numbers;
 
@@ -31,9 +32,19 @@ fn put_decimal(line: &mut [u8], at: usize, number: u64, after: u8) -> usize
     requires { at + 21 ≤ length line.old }
     ensures { (result ≤ at + 21) × (length line.new ≡ length line.old) }
 {
-    let mut digits = [0u8; 20];
-    let count = io::decimal(number, &mut digits);
-    put(line, at, &digits[0..count], after)
+    let mut digits = itoa::Buffer::new();
+    put(line, at, digits.format(number).as_bytes(), after)
+}
+
+// The hexadecimal digit of a number below 16.
+fn hex_digit(number: u64) -> u8
+    requires { number < 16 }
+    ensures { result ≡ digit_glyph false number }
+{
+    if number < 10 {
+        return b'0' + number as u8;
+    }
+    b'a' + (number - 10) as u8
 }
 
 // Puts a number's 16 hexadecimal digits and a space.
@@ -42,8 +53,10 @@ fn put_hex(line: &mut [u8], at: usize, number: u64) -> usize
     ensures { (result ≤ at + 21) × (length line.new ≡ length line.old) }
 {
     let mut digits = [0u8; 16];
-    let count = io::hex(number, 16, &mut digits);
-    put(line, at, &digits[0..count], b' ')
+    for i in 0..16 {
+        digits[i] = hex_digit((number >> (60 - 4 * i)) & 15);
+    }
+    put(line, at, &digits, b' ')
 }
 
 // Puts a card's line into a text at a place; gives the place after it.

@@ -1,6 +1,8 @@
 // The same program, run on a deck of the second program's: its cards in stdin, its lines in stdout.
 #![tactic(auto)]
 
-fn main() {
-    play::deck();
+use std::io;
+
+fn main(rt: HostRuntime) -> io::Result<()> {
+    play::deck(&mut rt.reader(), &mut io::writer(&rt))
 }

@@ -1,69 +1,70 @@
 // One address: canonical form, splitting, the named sums.
 use crate::print::{decimal, hex, text};
 use address::{PhysAddr, VirtAddr};
+use std::io;
+use std::io::Write;
 
 // Prints the index of an address at a level.
-fn index(address: VirtAddr, level: u64) {
-    text(b" ");
-    decimal(address.index(level));
+fn index(out: &mut impl Write, address: VirtAddr, level: u64) -> io::Result<()> {
+    text(out, b" ")?;
+    decimal(out, address.index(level))
 }
 
 // Prints the offset of an address in a page of a size.
-fn offset(address: VirtAddr, size: u64) {
-    text(b" ");
-    hex(address.offset(size));
+fn offset(out: &mut impl Write, address: VirtAddr, size: u64) -> io::Result<()> {
+    text(out, b" ")?;
+    hex(out, address.offset(size))
 }
 
 // Prints whether an address is canonical.
-fn form(address: VirtAddr) {
+fn form(out: &mut impl Write, address: VirtAddr) -> io::Result<()> {
     if address.canonical() {
-        text(b": canonical");
-        return;
+        return text(out, b": canonical");
     }
-    text(b": not canonical");
+    text(out, b": not canonical")
 }
 
 // Prints what a virtual address is made of.
-fn split(plain: u64) {
+fn split(out: &mut impl Write, plain: u64) -> io::Result<()> {
     let address = VirtAddr(plain);
-    text(b"address ");
-    hex(plain);
-    form(address);
-    text(b", indexes");
-    index(address, 4);
-    index(address, 3);
-    index(address, 2);
-    index(address, 1);
-    text(b", offsets");
-    offset(address, 1);
-    offset(address, 2);
-    offset(address, 3);
-    text(b", tag ");
-    hex(address.tag());
-    text(b"\n");
+    text(out, b"address ")?;
+    hex(out, plain)?;
+    form(out, address)?;
+    text(out, b", indexes")?;
+    index(out, address, 4)?;
+    index(out, address, 3)?;
+    index(out, address, 2)?;
+    index(out, address, 1)?;
+    text(out, b", offsets")?;
+    offset(out, address, 1)?;
+    offset(out, address, 2)?;
+    offset(out, address, 3)?;
+    text(out, b", tag ")?;
+    hex(out, address.tag())?;
+    text(out, b"\n")
 }
 
 // Prints the frame of a physical address.
-fn frame(plain: u64) {
+fn frame(out: &mut impl Write, plain: u64) -> io::Result<()> {
     let physical = PhysAddr(plain);
-    text(b"physical address ");
-    hex(plain);
-    text(b": frame ");
+    text(out, b"physical address ")?;
+    hex(out, plain)?;
+    text(out, b": frame ")?;
     let frame = physical.frame();
-    hex(frame.0);
-    text(b"\n");
+    hex(out, frame.0)?;
+    text(out, b"\n")
 }
 
 // The examples of one address.
-pub(crate) fn all() {
-    split(0x40_3abc);
-    split(0x61_2345);
-    split(0x5234_5678);
-    split(0x80_8000_0000);
-    split(0x7fff_ffff_ffff);
-    split(0x8000_0000_0000);
-    split(0xffff_7fff_ffff_ffff);
-    split(0xffff_8000_0000_0000);
-    split(0xffff_ffff_ffff_ffff);
-    frame(0x5abc);
+pub(crate) fn all(out: &mut impl Write) -> io::Result<()> {
+    split(out, 0x40_3abc)?;
+    split(out, 0x61_2345)?;
+    split(out, 0x5234_5678)?;
+    split(out, 0x80_8000_0000)?;
+    split(out, 0x7fff_ffff_ffff)?;
+    split(out, 0x8000_0000_0000)?;
+    split(out, 0xffff_7fff_ffff_ffff)?;
+    split(out, 0xffff_8000_0000_0000)?;
+    split(out, 0xffff_ffff_ffff_ffff)?;
+    frame(out, 0x5abc)
 }
