@@ -1,4 +1,5 @@
 -- `Place::taken_by` meets its contract.
+use Rattle.std.proofs.Common.{rules}
 use Rattle.cache.specs.Places.{takes}
 use Rattle.cache.proofs.Place.taken_by.Goals as goal
 
@@ -16,7 +17,7 @@ returns-in-Number c = rw (c.in-Number.is, c.mine_alone-in-Number.ensures)
 
 pub returns-in-Local : goal.returns-in-Local
 unfolding takes
-returns-in-Local c = rw (c.in-Local.is, c.global.ensures)
+returns-in-Local c = rw c.in-Local.is (search rules)
 
 pub returns-in-All : goal.returns-in-All
 unfolding takes
