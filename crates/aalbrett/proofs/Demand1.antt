@@ -11,9 +11,7 @@ use Rattle.settings.specs.Settings.{initial, judged_from}
 use Rattle.address.specs.declared.VirtAddr.{VirtAddr}
 use Rattle.walk.specs.declared.Way.{Way}
 use Rattle.walk.specs.declared.Asked.{Asked}
-use Rattle.walk.specs.declared.Asked.TheVariants as Asked
 use Rattle.walk.specs.declared.Walked.{Walked}
-use Rattle.walk.specs.declared.Walked.TheVariants as Walked
 use Rattle.walk.specs.Access.{writes}
 use Rattle.walk.specs.Path.{Path}
 use Rattle.walk.specs.Translate.{asked, answered, fresh, fresh_memory, translated, translated_memory, numbers}

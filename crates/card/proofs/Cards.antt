@@ -10,7 +10,6 @@ use Rattle.machine.specs.declared.Stepped.{Stepped}
 use Rattle.machine.specs.Calls.{step}
 use Rattle.machine.specs.Calls as calls
 use Rattle.card.specs.declared.Decoded.{Decoded}
-use Rattle.card.specs.declared.Decoded.TheVariants as Decoded
 use Rattle.card.specs.Card.{Turned, Gives, decoded, turned, stepped}
 
 -- numbers, machine and memory are those of what a card gives

@@ -10,7 +10,6 @@ use Rattle.machine.specs.declared.Machine.{Machine}
 use Rattle.machine.specs.Demand1.{among, refusals}
 use Rattle.machine.proofs.Demand1 as machine
 use Rattle.card.specs.declared.Decoded.{Decoded}
-use Rattle.card.specs.declared.Decoded.TheVariants as Decoded
 use Rattle.card.specs.Card.{Turned, kind, call_of, decoded, turned, stepped}
 use Rattle.card.specs.Demand1.{Demand1, drops_by_card, leaves_by_card}
 

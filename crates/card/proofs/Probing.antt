@@ -12,14 +12,12 @@ use Rattle.walk.specs.Translate.{numbers}
 use Rattle.cache.specs.Places.{set_index}
 use Rattle.cache.specs.Whole.{set_at}
 use Rattle.machine.specs.declared.Call.{Call}
-use Rattle.machine.specs.declared.Call.TheVariants as Call
 use Rattle.machine.specs.declared.Machine.{Machine}
 use Rattle.machine.specs.declared.Probed.{Probed}
 use Rattle.machine.specs.declared.Probed.TheVariants.{Answered, Walk}
 use Rattle.machine.specs.Calls.{Result, step, probed_result, translated}
 use Rattle.machine.specs.Probe.{probed}
 use Rattle.card.specs.declared.Decoded.{Decoded}
-use Rattle.card.specs.declared.Decoded.TheVariants as Decoded
 use Rattle.card.specs.Card.{Turned, kind, address, call_of, decoded, turned, stepped}
 use Rattle.card.specs.Probe.{seen_by, seen_decoded, set_of, seen}
 use Rattle.card.proofs.Cards.{Is, is_same}

@@ -8,7 +8,6 @@ use Rattle.machine.specs.declared.Call.TheVariants as Call
 use Rattle.machine.specs.declared.Machine.{Machine}
 use Rattle.machine.specs.Calls.{step}
 use Rattle.card.specs.declared.Decoded.{Decoded}
-use Rattle.card.specs.declared.Decoded.TheVariants as Decoded
 
 -- "Byte 0 is the kind, 1 access, 2 mode"
 abbrev pub kind : List ℕ → ℕ

@@ -6,7 +6,6 @@ use Rattle.machine.specs.declared.Machine.{Machine}
 use Rattle.machine.specs.Calls.{step}
 use Rattle.machine.specs.Demand1.{among, refusals, drops_asked, leaves}
 use Rattle.card.specs.declared.Decoded.{Decoded}
-use Rattle.card.specs.declared.Decoded.TheVariants as Decoded
 use Rattle.card.specs.Card.{decoded, stepped}
 
 -- a card whose refusal "drops the page asked for"

@@ -8,10 +8,8 @@ use Rattle.cache.specs.Places.{set_index}
 use Rattle.machine.specs.declared.Probed.{Probed}
 use Rattle.machine.specs.declared.Probed.TheVariants.{Answered, Walk}
 use Rattle.machine.specs.declared.Call.{Call}
-use Rattle.machine.specs.declared.Call.TheVariants as Call
 use Rattle.machine.specs.Probe.{probed}
 use Rattle.card.specs.declared.Decoded.{Decoded}
-use Rattle.card.specs.declared.Decoded.TheVariants as Decoded
 use Rattle.card.specs.Card.{address, decoded}
 use Rattle.card.specs.declared.probe.Seen.{Seen}
 

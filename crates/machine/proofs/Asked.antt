@@ -14,7 +14,6 @@ use Rattle.address.specs.declared.VirtAddr.{VirtAddr}
 use Rattle.address.specs.Address.{tag, canonical}
 use Rattle.walk.specs.declared.Way.{Way}
 use Rattle.walk.specs.declared.Asked.{Asked}
-use Rattle.walk.specs.declared.Asked.TheVariants as Asked
 use Rattle.walk.specs.Access.{known, way_of}
 use Rattle.walk.specs.Translate.{asked, asked_of, asked_off}
 use Rattle.walk.proofs.Asking.{judged_served, served_is}

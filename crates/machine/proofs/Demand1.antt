@@ -12,13 +12,11 @@ use Rattle.settings.specs.Settings.{space_number, judged_from}
 use Rattle.address.specs.declared.VirtAddr.{VirtAddr}
 use Rattle.address.specs.Address.{tag}
 use Rattle.walk.specs.declared.Answer.{Answer}
-use Rattle.walk.specs.declared.Answer.TheVariants as Answer
 use Rattle.walk.specs.Translate.{numbers}
 use Rattle.cache.specs.declared.Drop.TheVariants.{Page}
 use Rattle.cache.specs.Whole.{held, empty_cache, drop_cache}
 use Rattle.cache.proofs.Laws.{held_drop}
 use Rattle.machine.specs.declared.Call.{Call}
-use Rattle.machine.specs.declared.Call.TheVariants as Call
 use Rattle.machine.specs.declared.Machine.{Machine}
 use Rattle.machine.specs.declared.Stepped.{Stepped}
 use Rattle.machine.specs.Calls.{Result, step, stored_result, root_loaded, settings_loaded, page_dropped, all_dropped, invalidated, load_answer, if_served, done, with_cache, with_memory, with_root, root_drop, with_settings, number_served, form_served, kind_drop, refused_with}

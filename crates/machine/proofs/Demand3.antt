@@ -1,7 +1,7 @@
 -- Demand 3: its first half, and what any call that walks gives.
 use Prim.Native.Nat.{ℕ}
 use mathlib.Core.Path.{◌≡◌, sym, ap, ◌∙◌}
-use mathlib.Core.Bool.{true, false, false≢true}
+use mathlib.Core.Bool.{true, false≢true}
 use mathlib.Core.List.{Memᴰ}
 use lib.ListN.{length}
 use Rattle.settings.specs.declared.Settings.{Settings}
@@ -17,7 +17,6 @@ use Rattle.cache.specs.Whole.{held}
 use Rattle.cache.proofs.Laws.{find_cache, find_cache_lem, serves_has}
 use Rattle.cache.proofs.Lists.{first_serves}
 use Rattle.machine.specs.declared.Call.{Call}
-use Rattle.machine.specs.declared.Call.TheVariants as Call
 use Rattle.machine.specs.Remember.{wanted, hit}
 use Rattle.machine.specs.Calls.{Result}
 use Rattle.machine.specs.Series.{Stand, gives, run, start}

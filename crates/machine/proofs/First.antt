@@ -17,7 +17,6 @@ use Rattle.address.specs.declared.VirtAddr.{VirtAddr}
 use Rattle.address.specs.Address.{tag, canonical}
 use Rattle.walk.specs.declared.Way.{Way}
 use Rattle.walk.specs.declared.Answer.{Answer}
-use Rattle.walk.specs.declared.Answer.TheVariants as Answer
 use Rattle.walk.specs.declared.Asked.TheVariants as Asked
 use Rattle.walk.specs.declared.Mapping.{Mapping}
 use Rattle.walk.specs.declared.Walked.TheVariants as Walked
@@ -34,7 +33,6 @@ use Rattle.cache.specs.Whole.{held, empty_cache, fill_cache, drop_cache}
 use Rattle.cache.proofs.Laws.{empty_sixteen, fill_sixteen, drop_sixteen}
 use Rattle.cache.proofs.Lists.{and_true}
 use Rattle.machine.specs.declared.Call.{Call}
-use Rattle.machine.specs.declared.Call.TheVariants as Call
 use Rattle.machine.specs.declared.Machine.{Machine}
 use Rattle.machine.specs.Remember.{place_of, hit}
 use Rattle.machine.specs.Calls.{load_answer, if_served, Result, step, with_cache, with_memory, with_root, root_drop, with_settings, done, number_served, form_served, kind_drop, refused_with, initial_machine}

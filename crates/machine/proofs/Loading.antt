@@ -5,7 +5,6 @@ use Rattle.settings.specs.declared.Unserved.{Unserved}
 use Rattle.settings.specs.declared.Service.TheVariants.{Served, NotServed}
 use Rattle.settings.specs.Settings.{judged_from, initial}
 use Rattle.walk.specs.declared.Answer.{Answer}
-use Rattle.walk.specs.declared.Answer.TheVariants as Answer
 use Rattle.cache.specs.declared.Cache.{Cache}
 use Rattle.cache.specs.Whole.{empty_cache}
 use Rattle.machine.specs.declared.Machine.{Machine}

@@ -18,7 +18,6 @@ use Rattle.cache.specs.Whole.{drop_cache}
 use Rattle.cache.proofs.Laws.{own_covered}
 use Rattle.cache.proofs.Lists.{and_true}
 use Rattle.machine.specs.declared.Call.{Call}
-use Rattle.machine.specs.declared.Call.TheVariants as Call
 use Rattle.machine.specs.Remember.{page_drop}
 use Rattle.machine.specs.Calls.{page_dropped, step, with_cache}
 use Rattle.machine.specs.Series.{Event, call, stores, Stand, gives, leads, run, start}

@@ -13,10 +13,9 @@ use Rattle.word.specs.Bytes.{load, inside}
 use Rattle.address.specs.declared.VirtAddr.{VirtAddr}
 use Rattle.address.specs.Address.{index, tag, page_bits}
 use Rattle.entry.specs.declared.Says.{Says}
-use Rattle.entry.specs.declared.Says.TheVariants as Says
 use Rattle.entry.specs.Says.{says}
 use Rattle.entry.specs.Rights.{number}
-use Rattle.walk.specs.Path.{Path, End, Entry, ends, next, outside, missing, reserved, page, onward, level, path, entries, end_of, reads, rights, every}
+use Rattle.walk.specs.Path.{Path, End, Entry, ends, next, outside, missing, reserved, page, onward, path, entries, end_of, reads, rights, every}
 use Rattle.machine.proofs.Values.{Grown, says_same, bit_1, bit_2, bit_high}
 
 -- every entry of a list has a property

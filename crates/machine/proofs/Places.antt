@@ -17,7 +17,7 @@ use Rattle.walk.specs.declared.Way.{Way}
 use Rattle.walk.specs.declared.Mapping.{Mapping}
 use Rattle.walk.specs.declared.Walked.TheVariants.{Mapped}
 use Rattle.walk.specs.Access.{needs_write, needed, writes, fetches}
-use Rattle.walk.specs.Path.{Path, entries, end_of, reads, rights, marks, every}
+use Rattle.walk.specs.Path.{Path, entries, end_of, rights, marks, every}
 use Rattle.walk.specs.Walk.{after, walk_path, walk_answer, walk_memory}
 use Rattle.cache.specs.Places.{has_g, key_of, set_index, filled_in, serves}
 use Rattle.cache.proofs.Laws.{has_filled, has_serves}

@@ -10,7 +10,6 @@ use Rattle.walk.specs.declared.Way.{Way}
 use Rattle.walk.specs.declared.Answer.{Answer}
 use Rattle.walk.specs.declared.Mapping.{Mapping}
 use Rattle.walk.specs.declared.Walked.{Walked}
-use Rattle.walk.specs.declared.Walked.TheVariants as Walked
 use Rattle.walk.specs.Translate.{answered}
 use Rattle.walk.specs.Walk.{walk_answer, walk_memory}
 use Rattle.cache.specs.declared.Cache.{Cache}

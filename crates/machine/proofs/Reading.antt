@@ -14,9 +14,8 @@ use Rattle.address.specs.declared.PhysAddr.{PhysAddr}
 use Rattle.address.specs.declared.VirtAddr.{VirtAddr}
 use Rattle.address.specs.Address.{index, page_bits}
 use Rattle.entry.specs.declared.Says.{Says}
-use Rattle.entry.specs.declared.Says.TheVariants as Says
 use Rattle.entry.specs.Says.{says, says_by, is_page, reserved as is_reserved, above_width, execute_disabled, size_too_large, inside_page, largest, table_base, page_base}
-use Rattle.walk.specs.Path.{Path, End, Entry, ends, outside, missing, reserved, page, onward, level, path, entries, end_of}
+use Rattle.walk.specs.Path.{Path, End, Entry, ends, outside, missing, reserved, page, onward, path, entries, end_of}
 use Rattle.machine.proofs.Paths.{All}
 
 -- an entry that a walk of memory read and did not refuse

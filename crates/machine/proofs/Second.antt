@@ -22,14 +22,13 @@ use Rattle.cache.specs.Sets.{keep}
 use Rattle.cache.specs.Whole.{held, fill_cache}
 use Rattle.cache.proofs.Laws.{find_cache, Sixteen, fill_sixteen, held_fill}
 use Rattle.machine.specs.declared.Call.{Call}
-use Rattle.machine.specs.declared.Call.TheVariants as Call
 use Rattle.machine.specs.declared.Machine.{Machine}
 use Rattle.machine.specs.Probe.{probed}
 use Rattle.machine.specs.Remember.{wanted, place_of, hit}
 use Rattle.machine.specs.Calls.{Result, step, with_cache}
 use Rattle.machine.specs.Calls as Calls
 use Rattle.machine.specs.Series.{Event, Stand, gives, run, start}
-use Rattle.machine.specs.History.{Walk, none, walk_of, succeeded, drops}
+use Rattle.machine.specs.History.{Walk, none, walk_of, succeeded}
 use Rattle.machine.specs.Demand3.{others, present_number, Numbered, Between, again, SecondHalf}
 use Rattle.machine.proofs.Places.{found_filled, found_serves, found_key}
 use Rattle.machine.proofs.Asked.{Due, due, due_again}

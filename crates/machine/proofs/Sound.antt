@@ -23,7 +23,6 @@ use Rattle.cache.specs.Sets.{keep}
 use Rattle.cache.specs.Whole.{held, empty_cache, fill_cache, drop_cache}
 use Rattle.cache.proofs.Laws.{Sixteen, held_empty, held_fill, held_fill_other, held_drop, fill_takes}
 use Rattle.machine.specs.declared.Call.{Call}
-use Rattle.machine.specs.declared.Call.TheVariants as Call
 use Rattle.machine.specs.Calls.{with_root}
 use Rattle.machine.specs.Series.{Stand}
 use Rattle.machine.specs.Demand1.{faulted}

@@ -1,5 +1,5 @@
 -- The place of a page stays in its set while calls spare the page and at most three other pages of the set come in front of it.
-use Prim.Native.Nat.{ℕ, ◌+◌, ◌≤◌}
+use Prim.Native.Nat.{ℕ, ◌≤◌}
 use native.Mathlib.Decide.{ℕ_discrete}
 use native.Mathlib.Omega.{arith}
 use mathlib.Core.Path.{◌≡◌, refl, sym, ap, ap₂, subst, ◌∙◌}
@@ -29,7 +29,6 @@ use Rattle.cache.specs.Whole.{held, empty_cache, fill_cache, drop_cache}
 use Rattle.cache.proofs.Laws.{find_cache, Sixteen, fill_sixteen, drop_sixteen, held_fill, held_fill_other, held_drop, tag_other, fill_leaves, fill_other, find_cache_lem, other_serves_not}
 use Rattle.cache.proofs.Lists.{Each, each_keep, each_kept, each_weaker, passed_by}
 use Rattle.machine.specs.declared.Call.{Call}
-use Rattle.machine.specs.declared.Call.TheVariants as Call
 use Rattle.machine.specs.declared.Machine.{Machine}
 use Rattle.machine.specs.Remember.{place_of}
 use Rattle.machine.specs.Calls.{load_answer, if_served, Result, step, with_cache, with_memory, with_root, root_drop, with_settings, done, number_served, form_served, kind_drop, refused_with}

@@ -11,22 +11,17 @@ use Rattle.address.specs.declared.VirtAddr.{VirtAddr}
 use Rattle.address.specs.Address.{tag}
 use Rattle.walk.specs.declared.Way.{Way}
 use Rattle.walk.specs.declared.Answer.{Answer}
-use Rattle.walk.specs.declared.Answer.TheVariants as Answer
 use Rattle.walk.specs.declared.Asked.{Asked}
-use Rattle.walk.specs.declared.Asked.TheVariants as Asked
 use Rattle.walk.specs.declared.Mapping.{Mapping}
 use Rattle.walk.specs.declared.Walked.{Walked}
-use Rattle.walk.specs.declared.Walked.TheVariants as Walked
 use Rattle.walk.specs.Walk.{after, walk_answer, walk_memory}
 use Rattle.walk.specs.Translate.{unpaged, asked, answered, translated, translated_memory}
 use Rattle.cache.specs.declared.Found.{Found}
-use Rattle.cache.specs.declared.Found.TheVariants as Found
 use Rattle.cache.specs.declared.Drop.TheVariants.{Page}
 use Rattle.cache.specs.declared.Place.{Place}
 use Rattle.cache.specs.Whole.{fill_cache, drop_cache}
 use Rattle.cache.proofs.Laws.{find_cache}
 use Rattle.machine.specs.declared.Call.{Call}
-use Rattle.machine.specs.declared.Call.TheVariants as Call
 use Rattle.machine.specs.declared.Machine.{Machine}
 use Rattle.machine.specs.Probe.{probed}
 use Rattle.machine.specs.Remember.{wanted, place_of, hit}

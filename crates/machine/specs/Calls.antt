@@ -10,7 +10,6 @@ use Rattle.address.specs.declared.VirtAddr.{VirtAddr}
 use Rattle.address.specs.Address.{canonical, tag}
 use Rattle.walk.specs.declared.Way.{Way}
 use Rattle.walk.specs.declared.Answer.{Answer}
-use Rattle.walk.specs.declared.Answer.TheVariants as Answer
 use Rattle.walk.specs.Walk.{walk_answer, walk_memory}
 use Rattle.walk.specs.Translate.{answered, unpaged}
 use Rattle.cache.specs.declared.Cache.{Cache}
@@ -19,7 +18,6 @@ use Rattle.cache.specs.declared.Drop.TheVariants.{Piece, Number, Local, All, Not
 use Rattle.cache.specs.Places.{set_index}
 use Rattle.cache.specs.Whole.{set_at, empty_cache, drop_cache}
 use Rattle.machine.specs.declared.Call.{Call}
-use Rattle.machine.specs.declared.Call.TheVariants as Call
 use Rattle.machine.specs.declared.Machine.{Machine}
 use Rattle.machine.specs.declared.Probed.{Probed}
 use Rattle.machine.specs.declared.Probed.TheVariants.{Answered, Walk}

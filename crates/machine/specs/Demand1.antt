@@ -8,7 +8,6 @@ use Rattle.cache.specs.Places.{left}
 use Rattle.cache.specs.Sets.{keep}
 use Rattle.cache.specs.Whole.{held}
 use Rattle.machine.specs.declared.Call.{Call}
-use Rattle.machine.specs.declared.Call.TheVariants as Call
 use Rattle.machine.specs.declared.Machine.{Machine}
 use Rattle.machine.specs.Remember.{page_drop}
 use Rattle.machine.specs.Calls.{step}

@@ -8,7 +8,6 @@ use Rattle.walk.specs.declared.Answer.{Answer}
 use Rattle.walk.specs.declared.Numbers.{Numbers}
 use Rattle.walk.specs.Translate.{translated, translated_memory, numbers}
 use Rattle.machine.specs.declared.Call.{Call}
-use Rattle.machine.specs.declared.Call.TheVariants as Call
 use Rattle.machine.specs.Calls.{Result}
 use Rattle.machine.specs.Series.{Event, call, stores, Stand, gives, leads, run, start}
 use Rattle.machine.specs.History.{Walk, Latest, none, walk, walk_of, succeeded, asks, drops, latest}

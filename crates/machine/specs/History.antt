@@ -1,5 +1,5 @@
 -- The latest successful walk of a page under a space number since it was last dropped: computed from calls, answers and memory, never from the cache.
-use Rattle.std.specs.Prelude.{ℕ, Bool, true, false, not, ◌&&◌, cond, List, [], ◌∷◌, eqb}
+use Rattle.std.specs.Prelude.{ℕ, Bool, false, not, ◌&&◌, cond, List, [], ◌∷◌, eqb}
 use Rattle.word.specs.Bits.{bit}
 use Rattle.word.specs.Bytes.{load}
 use Rattle.settings.specs.declared.Settings.{Settings}
@@ -15,7 +15,6 @@ use Rattle.walk.specs.Translate.{numbers}
 use Rattle.walk.specs.Path.{Entry, End, outside, missing, reserved, page, entries, end_of}
 use Rattle.walk.specs.Walk.{walk_path}
 use Rattle.machine.specs.declared.Call.{Call}
-use Rattle.machine.specs.declared.Call.TheVariants as Call
 use Rattle.machine.specs.Remember.{page_drop}
 use Rattle.machine.specs.Calls.{root_drop, kind_drop}
 use Rattle.machine.specs.Demand1.{faulted}

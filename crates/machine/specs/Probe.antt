@@ -5,11 +5,9 @@ use Rattle.address.specs.declared.VirtAddr.{VirtAddr}
 use Rattle.address.specs.Address.{tag}
 use Rattle.walk.specs.declared.Way.{Way}
 use Rattle.walk.specs.declared.Asked.{Asked}
-use Rattle.walk.specs.declared.Asked.TheVariants as Asked
 use Rattle.walk.specs.declared.Answer.TheVariants as Answer
 use Rattle.walk.specs.Translate.{asked, unpaged}
 use Rattle.cache.specs.declared.Found.{Found}
-use Rattle.cache.specs.declared.Found.TheVariants as Found
 use Rattle.cache.specs.declared.Set.{Set}
 use Rattle.cache.specs.Places.{set_index}
 use Rattle.cache.specs.Sets.{find_in}

@@ -10,7 +10,6 @@ use Rattle.entry.specs.Rights.{number}
 use Rattle.walk.specs.declared.Way.{Way}
 use Rattle.walk.specs.declared.Mapping.{Mapping}
 use Rattle.walk.specs.declared.Walked.{Walked}
-use Rattle.walk.specs.declared.Walked.TheVariants as Walked
 use Rattle.walk.specs.declared.Answer.{Answer}
 use Rattle.walk.specs.declared.Answer.TheVariants.{Done}
 use Rattle.walk.specs.Access.{needs_write, needs_user, writes, fetches}

@@ -10,7 +10,6 @@ use Rattle.settings.specs.declared.Service.TheVariants.{Served, NotServed}
 use Rattle.settings.specs.Settings.{served, judged, accepts}
 use Rattle.settings.proofs.Laws.{served_judged}
 use Rattle.walk.specs.declared.Asked.{Asked}
-use Rattle.walk.specs.declared.Asked.TheVariants as Asked
 use Rattle.walk.specs.Access.{known}
 use Rattle.walk.specs.Translate.{asked_of}
 

@@ -15,7 +15,6 @@ use Rattle.walk.specs.declared.Access.TheVariants.{Read, Write, Fetch}
 use Rattle.walk.specs.declared.Way.{Way}
 use Rattle.walk.specs.declared.Asked.TheVariants as Asked
 use Rattle.walk.specs.declared.Answer.{Answer}
-use Rattle.walk.specs.declared.Answer.TheVariants as Answer
 use Rattle.walk.specs.Access.{known, way_of, needed, writes}
 use Rattle.walk.specs.Demand2.{first, stops, lacks, all_inside, access_number, mode_number, Gives, Refuses, Marks, Counts, Demand2, Walks}
 use Rattle.walk.specs.Path.{Path, End, Entry, page, entries, end_of}

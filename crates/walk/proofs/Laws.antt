@@ -10,13 +10,11 @@ use lib.Dec.{lit<}
 use Rattle.word.specs.Bits.{bit}
 use Rattle.word.specs.Bytes.{load, inside, loaded}
 use Rattle.word.specs.declared.Loaded.{Loaded}
-use Rattle.word.specs.declared.Loaded.TheVariants as Loaded
 use Rattle.address.specs.declared.PhysAddr.{PhysAddr}
 use Rattle.address.specs.declared.VirtAddr.{VirtAddr}
 use Rattle.address.specs.Address.{index, entry_address}
 use Rattle.address.proofs.Laws.{entry_plain}
 use Rattle.entry.specs.declared.Says.{Says}
-use Rattle.entry.specs.declared.Says.TheVariants as Says
 use Rattle.entry.specs.Mark.{mark}
 use Rattle.entry.specs.Rights.{number, own, allow}
 use Rattle.entry.proofs.Meeting.{meet, and_assoc}

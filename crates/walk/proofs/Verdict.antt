@@ -22,7 +22,6 @@ use Rattle.entry.specs.Says.{is_page, page_base}
 use Rattle.walk.specs.declared.Way.{Way}
 use Rattle.walk.specs.declared.Translation.{Translation}
 use Rattle.walk.specs.declared.Answer.{Answer}
-use Rattle.walk.specs.declared.Answer.TheVariants as Answer
 use Rattle.walk.specs.declared.Cause.TheVariants.{Rights}
 use Rattle.walk.specs.declared.Walked.{Walked}
 use Rattle.walk.specs.declared.Walked.TheVariants.{Mapped, Refused, Outside}

@@ -14,7 +14,6 @@ use Rattle.walk.specs.declared.Access.TheVariants.{Read, Write, Fetch}
 use Rattle.walk.specs.declared.Way.{Way}
 use Rattle.walk.specs.declared.Translation.{Translation}
 use Rattle.walk.specs.declared.Answer.{Answer}
-use Rattle.walk.specs.declared.Answer.TheVariants as Answer
 use Rattle.walk.specs.Path.{Entry, End, outside, missing, page, entries, end_of}
 use Rattle.walk.specs.Path as Path
 use Rattle.walk.specs.Translate.{answered, translated, translated_memory}

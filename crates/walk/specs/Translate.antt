@@ -16,9 +16,7 @@ use Rattle.walk.specs.declared.Cause.TheVariants.{Missing, Reserved, Rights}
 use Rattle.walk.specs.declared.Walked.{Walked}
 use Rattle.walk.specs.declared.Walked.TheVariants.{Mapped, Refused, Outside}
 use Rattle.walk.specs.declared.Asked.{Asked}
-use Rattle.walk.specs.declared.Asked.TheVariants as Asked
 use Rattle.walk.specs.declared.Answer.{Answer}
-use Rattle.walk.specs.declared.Answer.TheVariants as Answer
 use Rattle.walk.specs.Access.{known, way_of, needs_fetch, writes}
 use Rattle.walk.specs.Walk.{walk_answer, walk_memory}
 

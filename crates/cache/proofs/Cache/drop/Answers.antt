@@ -1,5 +1,5 @@
 -- `Cache::drop` meets its contract.
-use Rattle.std.proofs.Common.{refl, arith, rules}
+use Rattle.std.proofs.Common.{arith}
 use Rattle.cache.specs.Whole.{drop_cache}
 use Rattle.cache.specs.Sets.{drop_set}
 use Rattle.cache.proofs.Steps.{rewritten_more, rewritten_all}

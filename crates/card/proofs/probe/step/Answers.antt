@@ -20,5 +20,5 @@ returns-then-seen c =
     let m = c.args.machine.now in
     let card = c.args.card.now in
     let e : c.look-seen.result ≡ seen m.settings (set_at (set_of card) m.cache) card =
-        c.look-seen.ensures ∙ ap (λ (k : ℕ). seen m.settings (set_at k m.cache) card) c.set_of-index.ensures in
+    c.look-seen.ensures ∙ ap (λ (k : ℕ). seen m.settings (set_at k m.cache) card) c.set_of-index.ensures in
     rw e (answered_step m c.args.memory.now card (ap (λ (z : Seen). z.answered) (sym e) ∙ c.if-seen.true))

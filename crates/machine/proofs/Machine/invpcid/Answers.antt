@@ -1,8 +1,7 @@
 -- `Machine::invpcid` meets its contract.
 use mathlib.Core.Path.{sym, ◌∙◌}
-use mathlib.Core.Bool.{true, false}
 use borrow.Author.Tests.{le-leb, lt-leb}
-use Rattle.machine.specs.Calls.{invalidated, number_served}
+use Rattle.machine.specs.Calls.{invalidated}
 use Rattle.machine.proofs.Machine.invpcid.Goals as goal
 
 pub returns-then-kind-gt3 : goal.returns-then-kind-gt3
