@@ -47,10 +47,11 @@ def read(path):
 
 
 def declared(path):
-    """The names that a file declares, but not the goals that it answers."""
+    """The names that a file declares, in its modules too, but not the goals that it answers."""
+    inside = re.search(r"/proofs/\w+\.antt$", path)
     for line in read(path).splitlines():
         m = DECLARED.match(line)
-        if m and "tie." not in line and (m.group(1) == "" or m.group(2)):
+        if m and "tie." not in line and (inside or m.group(1) == "" or m.group(2)):
             yield m.group(3)
 
 

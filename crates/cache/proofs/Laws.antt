@@ -86,22 +86,22 @@ tag_other t p e = ap not (ne_eqb p.tag t e)
 
 -- the quotients of pages by their 4 KiB pieces
 pub covers_2_mib : (k : Key) (t : ℕ) → k.size ≡ 2 → eqb (k.tag / 512) (t / 512) ≡ covers k t
-covers_2_mib k t size = rw (size, by-pieces k.tag, by-pieces t)
+covers_2_mib k t size = rw (size, by_pieces k.tag, by_pieces t)
   where
-    by-pieces : (n : ℕ) → n * 4096 / 2 ^ 21 ≡ n / 512
-    by-pieces n = omega arith
+    by_pieces : (n : ℕ) → n * 4096 / 2 ^ 21 ≡ n / 512
+    by_pieces n = omega arith
 
 pub covers_1_gib : (k : Key) (t : ℕ) → k.size ≡ 3 → eqb (k.tag / 262144) (t / 262144) ≡ covers k t
-covers_1_gib k t size = rw (size, by-pieces k.tag, by-pieces t)
+covers_1_gib k t size = rw (size, by_pieces k.tag, by_pieces t)
   where
-    by-pieces : (n : ℕ) → n * 4096 / 2 ^ 30 ≡ n / 262144
-    by-pieces n = omega arith
+    by_pieces : (n : ℕ) → n * 4096 / 2 ^ 30 ≡ n / 262144
+    by_pieces n = omega arith
 
 pub covers_4_kib : (k : Key) (t : ℕ) → (k.size ≡ 2 → ⊥) → (k.size ≡ 3 → ⊥) → eqb k.tag t ≡ covers k t
-covers_4_kib k t not-2 not-3 = rw (ne_eqb k.size 2 not-2, ne_eqb k.size 3 not-3, by-pieces k.tag, by-pieces t)
+covers_4_kib k t not-2 not-3 = rw (ne_eqb k.size 2 not-2, ne_eqb k.size 3 not-3, by_pieces k.tag, by_pieces t)
   where
-    by-pieces : (n : ℕ) → n * 4096 / 2 ^ 12 ≡ n
-    by-pieces n = omega arith
+    by_pieces : (n : ℕ) → n * 4096 / 2 ^ 12 ≡ n
+    by_pieces n = omega arith
 
 -- a page drop takes the place of the page itself
 pub own_covered : (k : Key) → covers k k.tag ≡ true

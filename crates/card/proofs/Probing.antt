@@ -63,16 +63,16 @@ module _ (m : Machine) (memory : List ℕ) where
   abbrev in_numbers : Result → Turned
   in_numbers r = record { numbers = numbers r.answer; machine = r.machine; memory = r.memory }
 
-  probed-answers : (at : VirtAddr) (q : Probed) → (seen_by q).answered ≡ true
+  probed_answers : (at : VirtAddr) (q : Probed) → (seen_by q).answered ≡ true
       → ◌≡◌ {A = Turned} (record { numbers = (seen_by q).numbers; machine = m; memory = memory }) (in_numbers (probed_result m memory at q))
-  probed-answers at (Answered r) h = refl
-  probed-answers at (Walk a) h = cc
+  probed_answers at (Answered r) h = refl
+  probed_answers at (Walk a) h = cc
 
   seen_turned : (i : ℕ) (d : Decoded) → OwnSet i d → (seen_decoded m.settings (set_at i m.cache) d).answered ≡ true
       → record { numbers = (seen_decoded m.settings (set_at i m.cache) d).numbers; machine = m; memory = memory } ≡ turned m memory d
   unfolding step translated
   seen_turned i (Decoded.Call (Call.Translate at a o)) own h =
-      probed-answers at (probed m.settings (set_at i m.cache) at a o) h
+      probed_answers at (probed m.settings (set_at i m.cache) at a o) h
       ∙ ap (λ (k : ℕ). in_numbers (probed_result m memory at (probed m.settings (set_at k m.cache) at a o))) own
   seen_turned i (Decoded.Call (Call.Store at v)) own h = cc
   seen_turned i (Decoded.Call (Call.LoadRoot v)) own h = cc

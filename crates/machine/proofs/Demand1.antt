@@ -83,10 +83,10 @@ module _ (m : Machine) (memory : List ℕ) where
     translation (Ways.drops r no-success fault is fresh-is left_is) = subst Leaving (sym is) (dropped r fault)
 
   -- a load that is refused leaves the machine
-  load-leaves : (c : Call) → ((r : Answer) (i : ℕ) → held i m.cache ≡ leaves m.settings c r (held i m.cache)) → (x : Machine) (service : Service)
+  load_leaves : (c : Call) → ((r : Answer) (i : ℕ) → held i m.cache ≡ leaves m.settings c r (held i m.cache)) → (x : Machine) (service : Service)
       → refused (load_answer service) ≡ true → Leaves m memory c (record { answer = load_answer service; machine = if_served service x m; memory = memory })
-  load-leaves c same x Served h = absurd (false≢true h)
-  load-leaves c same x (NotServed why) h = unmoved c (Answer.NotServed why) (same (Answer.NotServed why)) h
+  load_leaves c same x Served h = absurd (false≢true h)
+  load_leaves c same x (NotServed why) h = unmoved c (Answer.NotServed why) (same (Answer.NotServed why)) h
 
   -- INVPCID by what its tests find
   abbrev invpcid_result : ℕ → ℕ → VirtAddr → Bool → Bool → Bool → Stepped
@@ -97,40 +97,40 @@ module _ (m : Machine) (memory : List ℕ) where
       (refused_with Answer.SpaceNumber m))
       (refused_with Answer.Unknown m)
 
-  store-leaves : (at value : ℕ) (ok : Bool) → refused (cond ok done (Answer.Outside (record { 0 = at }) 0 0)) ≡ true
+  store_leaves : (at value : ℕ) (ok : Bool) → refused (cond ok done (Answer.Outside (record { 0 = at }) 0 0)) ≡ true
       → Leaves m memory (Call.Store at value)
       (record { answer = cond ok done (Answer.Outside (record { 0 = at }) 0 0); machine = m; memory = cond ok (store 8 memory at value) memory })
-  store-leaves at value true h = absurd (false≢true h)
-  store-leaves at value false h = unmoved (Call.Store at value) (Answer.Outside (record { 0 = at }) 0 0) (λ i. refl) h
+  store_leaves at value true h = absurd (false≢true h)
+  store_leaves at value false h = unmoved (Call.Store at value) (Answer.Outside (record { 0 = at }) 0 0) (λ i. refl) h
 
   -- INVPCID that is refused leaves the machine
-  invpcid-leaves : (kind number : ℕ) (address : VirtAddr) (known served form : Bool)
+  invpcid_leaves : (kind number : ℕ) (address : VirtAddr) (known served form : Bool)
       → refused (invpcid_result kind number address known served form).answer ≡ true
       → Leaves m memory (Call.Invpcid kind number address) (with_memory memory (invpcid_result kind number address known served form))
-  invpcid-leaves kind number address true true true h = absurd (false≢true h)
-  invpcid-leaves kind number address true true false h = unmoved (Call.Invpcid kind number address) Answer.Form (λ i. refl) h
-  invpcid-leaves kind number address true false form h = unmoved (Call.Invpcid kind number address) Answer.SpaceNumber (λ i. refl) h
-  invpcid-leaves kind number address false served form h = unmoved (Call.Invpcid kind number address) Answer.Unknown (λ i. refl) h
+  invpcid_leaves kind number address true true true h = absurd (false≢true h)
+  invpcid_leaves kind number address true true false h = unmoved (Call.Invpcid kind number address) Answer.Form (λ i. refl) h
+  invpcid_leaves kind number address true false form h = unmoved (Call.Invpcid kind number address) Answer.SpaceNumber (λ i. refl) h
+  invpcid_leaves kind number address false served form h = unmoved (Call.Invpcid kind number address) Answer.Unknown (λ i. refl) h
 
-  call-leaves : (c : Call) → refused (step m memory c).answer ≡ true → Leaves m memory c (step m memory c)
+  call_leaves : (c : Call) → refused (step m memory c).answer ≡ true → Leaves m memory c (step m memory c)
   unfolding step stored_result root_loaded settings_loaded page_dropped all_dropped invalidated
-  call-leaves (Call.Translate address access mode) h = translation address access mode (goes m memory address access mode) h
-  call-leaves (Call.Store at value) h = store-leaves at value (inside memory at) h
-  call-leaves (Call.LoadRoot value) h =
-      load-leaves (Call.LoadRoot value) (λ r i. refl) (record { settings = with_root m.settings value; cache = drop_cache (root_drop m.settings value) m.cache })
+  call_leaves (Call.Translate address access mode) h = translation address access mode (goes m memory address access mode) h
+  call_leaves (Call.Store at value) h = store_leaves at value (inside memory at) h
+  call_leaves (Call.LoadRoot value) h =
+      load_leaves (Call.LoadRoot value) (λ r i. refl) (record { settings = with_root m.settings value; cache = drop_cache (root_drop m.settings value) m.cache })
       (judged_from m.settings (with_root m.settings value))
       h
-  call-leaves (Call.LoadSettings cr0 cr4 efer width) h =
-      load-leaves (Call.LoadSettings cr0 cr4 efer width) (λ r i. refl)
+  call_leaves (Call.LoadSettings cr0 cr4 efer width) h =
+      load_leaves (Call.LoadSettings cr0 cr4 efer width) (λ r i. refl)
       (record { settings = with_settings m.settings cr0 cr4 efer width; cache = empty_cache })
       (judged_from m.settings (with_settings m.settings cr0 cr4 efer width))
       h
-  call-leaves (Call.DropPage address) h = absurd (false≢true h)
-  call-leaves Call.DropAll h = absurd (false≢true h)
-  call-leaves (Call.Invpcid kind number address) h =
-      invpcid-leaves kind number address (leb kind 3) (number_served m.settings kind number) (form_served kind address) h
+  call_leaves (Call.DropPage address) h = absurd (false≢true h)
+  call_leaves Call.DropAll h = absurd (false≢true h)
+  call_leaves (Call.Invpcid kind number address) h =
+      invpcid_leaves kind number address (leb kind 3) (number_served m.settings kind number) (form_served kind address) h
 
 pub demand1 : Demand1
 demand1 m memory c h =
-    let k = call-leaves m memory c h in
+    let k = call_leaves m memory c h in
     record { number = k.number; bytes = k.bytes; registers = k.registers; places = k.places; otherwise = k.otherwise }

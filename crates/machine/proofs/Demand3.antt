@@ -34,9 +34,9 @@ module _ (now : Stand) (size : ℕ) (w : Latest) (address : VirtAddr) (access mo
   s = now.machine.settings
 
   -- a hit under the premise
-  fresh-hit : (a : Way) (p : Place) → find_cache (wanted s address a) now.machine.cache ≡ Found.At p
+  fresh_hit : (a : Way) (p : Place) → find_cache (wanted s address a) now.machine.cache ≡ Found.At p
       → (without_reads (hit address p) ≡ without_reads (answered s address a (walk_answer s address a now.memory))) × (now.memory ≡ walk_memory s address a now.memory)
-  fresh-hit a p found = go w premise (has_member (Own (tag address) (present_number now) s size w) member.0 sound.backed same own_number)
+  fresh_hit a p found = go w premise (has_member (Own (tag address) (present_number now) s size w) member.0 sound.backed same own_number)
     where
       member : Memᴰ p (held (set_index (tag address)) now.machine.cache) × (serves (wanted s address a) p ≡ true)
       member =
@@ -55,23 +55,23 @@ module _ (now : Stand) (size : ℕ) (w : Latest) (address : VirtAddr) (access mo
       go (walk v) h back = hit_fresh s size v p back address a now.memory sound.as_long h.0 h.1 member.1
 
   -- a translation under the premise
-  as-fresh : Goes now.machine now.memory address access mode → AsFresh now address access mode
-  as-fresh (quiet r no-success no-fault is fresh-is left_is) =
+  as_fresh : Goes now.machine now.memory address access mode → AsFresh now address access mode
+  as_fresh (quiet r no-success no-fault is fresh-is left_is) =
       (ap (λ (x : Result). without_reads x.answer) is ∙ ap without_reads (sym fresh-is), ap (λ (x : Result). x.memory) is ∙ sym left_is)
-  as-fresh (hits a p found is fresh-is left_is) = (
-    ap (λ (x : Result). without_reads x.answer) is ∙ (fresh-hit a p found).0 ∙ ap without_reads (sym fresh-is),
-    ap (λ (x : Result). x.memory) is ∙ (fresh-hit a p found).1 ∙ sym left_is,
+  as_fresh (hits a p found is fresh-is left_is) = (
+    ap (λ (x : Result). without_reads x.answer) is ∙ (fresh_hit a p found).0 ∙ ap without_reads (sym fresh-is),
+    ap (λ (x : Result). x.memory) is ∙ (fresh_hit a p found).1 ∙ sym left_is,
   )
-  as-fresh (fills a f on found is fresh-is left_is) =
+  as_fresh (fills a f on found is fresh-is left_is) =
       (ap (λ (x : Result). without_reads x.answer) is ∙ ap without_reads (sym fresh-is), ap (λ (x : Result). x.memory) is ∙ sym left_is)
-  as-fresh (Ways.drops r no-success fault is fresh-is left_is) =
+  as_fresh (Ways.drops r no-success fault is fresh-is left_is) =
       (ap (λ (x : Result). without_reads x.answer) is ∙ ap without_reads (sym fresh-is), ap (λ (x : Result). x.memory) is ∙ sym left_is)
 
 -- the first half
 pub first_half : FirstHalf
 first_half s memory series address access mode premise =
     let n = present_number (run (start s memory) series) in
-    as-fresh (run (start s memory) series) (length memory) (latest (tag address) n (start s memory) series none) address access mode
+    as_fresh (run (start s memory) series) (length memory) (latest (tag address) n (start s memory) series none) address access mode
     (after_series (tag address) n (length memory) (start s memory) none (start_sound (tag address) n s memory) series)
     premise
     (goes (run (start s memory) series).machine (run (start s memory) series).memory address access mode)

@@ -64,9 +64,9 @@ module _ (t n size : ℕ) (m : Machine) (memory : List ℕ) (w : Latest) (sound 
       (record { sixteen = sound.sixteen; as_long = long ∙ sound.as_long; backed = sound.backed })
 
   -- a drop
-  after-drop : (d : Drop) (known : Latest) → known ≡ forgotten d w
+  after_drop : (d : Drop) (known : Latest) → known ≡ forgotten d w
       → Sound t n size (record { machine = with_cache m (drop_cache d m.cache); memory = memory }) known
-  after-drop d known is =
+  after_drop d known is =
       record {
         sixteen = drop_sixteen d m.cache;
         as_long = sound.as_long;
@@ -79,9 +79,9 @@ module _ (t n size : ℕ) (m : Machine) (memory : List ℕ) (w : Latest) (sound 
     this = Call.Translate address access mode
 
     -- a fill
-    after-fill : (a : Way) (f : Mapping) → asked s address access mode ≡ Asked.On a → walk_answer s address a memory ≡ Walked.Mapped f
+    after_fill : (a : Way) (f : Mapping) → asked s address access mode ≡ Asked.On a → walk_answer s address a memory ≡ Walked.Mapped f
         → Next this (filled_result m memory address access mode a f)
-    after-fill a f on is =
+    after_fill a f on is =
         record { sixteen = fill_sixteen new m.cache sound.sixteen; as_long = long; backed = by_cases (walked_for t n s address memory r) own other }
       where
         new : Place
@@ -93,11 +93,11 @@ module _ (t n size : ℕ) (m : Machine) (memory : List ℕ) (w : Latest) (sound 
         r : Answer
         r = answered s address a (Walked.Mapped f)
 
-        is-due : Due s address access mode a
-        is-due = due s address access mode a on
+        is_due : Due s address access mode a
+        is_due = due s address access mode a on
 
-        is-filled : filled_in (set_index (tag address)) new ≡ true
-        is-filled = found_filled s address a memory f is is-due.is_canonical
+        is_filled : filled_in (set_index (tag address)) new ≡ true
+        is_filled = found_filled s address a memory f is is_due.is_canonical
 
         long : length left ≡ size
         long =
@@ -116,15 +116,15 @@ module _ (t n size : ℕ) (m : Machine) (memory : List ℕ) (w : Latest) (sound 
               memory = memory;
               found = f;
               alike = record { cr0_same = refl; cr4_same = refl; efer_same = refl; width_same = refl };
-              wide = served_wide s is-due.is_served;
+              wide = served_wide s is_due.is_served;
               as_long = sound.as_long;
               walk_found = is;
               is_place = refl;
               is_walk = refl;
             }
 
-        its-key : key_of new ≡ key_at s address (end_of (walk_path s address memory))
-        its-key = found_key s address a memory f is left
+        its_key : key_of new ≡ key_at s address (end_of (walk_path s address memory))
+        its_key = found_key s address a memory f is left
 
         own : walked_for t n s address memory r ≡ true → Has (Own t n s size (noted t n s memory this r left w)) (held (set_index t) (fill_cache new m.cache))
         own walked =
@@ -132,14 +132,14 @@ module _ (t n size : ℕ) (m : Machine) (memory : List ℕ) (w : Latest) (sound 
             subst (λ (v : Latest). Has (Own t n s size v) (held (set_index t) (fill_cache new m.cache)))
             (sym (noted_walk t n s memory left address access mode r w walked))
             (filled_own t n size s (walk (walk_of s address memory left)) m.cache sound.sixteen new
-            (eqb-true (tag address) t (and_true (eqb (tag address) t) (succeeded r) both.0).0) (ap (mine n) its-key ∙ both.1) is-filled backs)
+            (eqb-true (tag address) t (and_true (eqb (tag address) t) (succeeded r) both.0).0) (ap (mine n) its_key ∙ both.1) is_filled backs)
 
         other : walked_for t n s address memory r ≡ false → Has (Own t n s size (noted t n s memory this r left w)) (held (set_index t) (fill_cache new m.cache))
         other apart =
             subst (λ (v : Latest). Has (Own t n s size v) (held (set_index t) (fill_cache new m.cache)))
             (sym (noted_other t n s memory left address access mode r w apart refl))
             (filled_other t n size s w m.cache sound.sixteen new
-            (λ same own_number. contradiction (rw (eq-eqb (tag address) t same, success, ← its-key, own_number)) apart) is-filled sound.backed)
+            (λ same own_number. contradiction (rw (eq-eqb (tag address) t same, success, ← its_key, own_number)) apart) is_filled sound.backed)
 
     -- a translation
     translation : Goes m memory address access mode → Next this (step m memory this)
@@ -147,10 +147,10 @@ module _ (t n size : ℕ) (m : Machine) (memory : List ℕ) (w : Latest) (sound 
         subst (Next this) (sym is) (unchanged this r memory refl (noted_quiet t n s memory memory address access mode r w no-success no-fault))
     translation (hits a p found is fresh-is left_is) =
         subst (Next this) (sym is) (unchanged this (hit address p) memory refl (noted_quiet t n s memory memory address access mode (hit address p) w refl refl))
-    translation (fills a f on found is fresh-is left_is) = subst (Next this) (sym is) (after-fill a f on found)
+    translation (fills a f on found is fresh-is left_is) = subst (Next this) (sym is) (after_fill a f on found)
     translation (Ways.drops r no-success fault is fresh-is left_is) =
         subst (Next this) (sym is)
-        (after-drop (Page (tag address) (space_number s)) (noted t n s memory this r memory w) (noted_drop t n s memory memory address access mode r w no-success fault))
+        (after_drop (Page (tag address) (space_number s)) (noted t n s memory this r memory w) (noted_drop t n s memory memory address access mode r w no-success fault))
 
   -- a store
   after_store : (at value : ℕ) → Next (Call.Store at value) (step m memory (Call.Store at value))
@@ -164,9 +164,9 @@ module _ (t n size : ℕ) (m : Machine) (memory : List ℕ) (w : Latest) (sound 
       long false = refl
 
   -- a root load
-  after-root : (value : ℕ) → Next (Call.LoadRoot value) (step m memory (Call.LoadRoot value))
+  after_root : (value : ℕ) → Next (Call.LoadRoot value) (step m memory (Call.LoadRoot value))
   unfolding step Calls.root_loaded
-  after-root value = go (judged_from s (with_root s value))
+  after_root value = go (judged_from s (with_root s value))
     where
       go : (x : Service) → Next (Call.LoadRoot value)
           (record { answer = load_answer x; machine = if_served x (record { settings = with_root s value; cache = drop_cache (root_drop s value) m.cache }) m; memory = memory })
@@ -181,9 +181,9 @@ module _ (t n size : ℕ) (m : Machine) (memory : List ℕ) (w : Latest) (sound 
           (forgotten_unless (accepted (Answer.NotServed why)) (root_drop s value) w (not_accepted why))
 
   -- a settings load
-  after-settings : (cr0 cr4 efer width : ℕ) → Next (Call.LoadSettings cr0 cr4 efer width) (step m memory (Call.LoadSettings cr0 cr4 efer width))
+  after_settings : (cr0 cr4 efer width : ℕ) → Next (Call.LoadSettings cr0 cr4 efer width) (step m memory (Call.LoadSettings cr0 cr4 efer width))
   unfolding step Calls.settings_loaded
-  after-settings cr0 cr4 efer width = go (judged_from s (with_settings s cr0 cr4 efer width))
+  after_settings cr0 cr4 efer width = go (judged_from s (with_settings s cr0 cr4 efer width))
     where
       go : (x : Service) → Next (Call.LoadSettings cr0 cr4 efer width)
           (record { answer = load_answer x; machine = if_served x (record { settings = with_settings s cr0 cr4 efer width; cache = empty_cache }) m; memory = memory })
@@ -199,32 +199,32 @@ module _ (t n size : ℕ) (m : Machine) (memory : List ℕ) (w : Latest) (sound 
           (forgotten_unless (accepted (Answer.NotServed why)) All w (not_accepted why))
 
   -- "drop all"
-  after-all : Next Call.DropAll (step m memory Call.DropAll)
+  after_all : Next Call.DropAll (step m memory Call.DropAll)
   unfolding step Calls.all_dropped
-  after-all =
+  after_all =
       record { sixteen = empty_sixteen; as_long = sound.as_long; backed = emptied t n size s (forgotten All w) m.cache sound.sixteen }
 
   -- "drop page"
-  after-page : (address : VirtAddr) → Next (Call.DropPage address) (step m memory (Call.DropPage address))
+  after_page : (address : VirtAddr) → Next (Call.DropPage address) (step m memory (Call.DropPage address))
   unfolding step Calls.page_dropped
-  after-page address = go (canonical address) refl
+  after_page address = go (canonical address) refl
     where
       go : (b : Bool) → canonical address ≡ b → Next (Call.DropPage address)
           (record { answer = done; machine = cond b (with_cache m (drop_cache (Page (tag address) (space_number s)) m.cache)) m; memory = memory })
-      go true form = after-drop (Page (tag address) (space_number s)) _ (rw form)
+      go true form = after_drop (Page (tag address) (space_number s)) _ (rw form)
       go false form = unchanged (Call.DropPage address) done memory refl (forgotten_unless (canonical address) (Page (tag address) (space_number s)) w form)
 
   -- INVPCID
-  after-invpcid : (kind number : ℕ) (address : VirtAddr) → Next (Call.Invpcid kind number address) (step m memory (Call.Invpcid kind number address))
+  after_invpcid : (kind number : ℕ) (address : VirtAddr) → Next (Call.Invpcid kind number address) (step m memory (Call.Invpcid kind number address))
   unfolding step Calls.invalidated
-  after-invpcid kind number address = go (leb kind 3) (number_served s kind number) (form_served kind address)
+  after_invpcid kind number address = go (leb kind 3) (number_served s kind number) (form_served kind address)
     where
       go : (known served form : Bool) → Next (Call.Invpcid kind number address) (with_memory memory (cond known
           (cond served
           (cond form (record { answer = done; machine = with_cache m (drop_cache (kind_drop kind number address) m.cache) }) (refused_with Answer.Form m))
           (refused_with Answer.SpaceNumber m))
           (refused_with Answer.Unknown m)))
-      go true true true = after-drop (kind_drop kind number address) _ refl
+      go true true true = after_drop (kind_drop kind number address) _ refl
       go true true false = unchanged (Call.Invpcid kind number address) Answer.Form memory refl (forgotten_nothing w)
       go true false form = unchanged (Call.Invpcid kind number address) Answer.SpaceNumber memory refl (forgotten_nothing w)
       go false served form = unchanged (Call.Invpcid kind number address) Answer.Unknown memory refl (forgotten_nothing w)
@@ -233,15 +233,15 @@ module _ (t n size : ℕ) (m : Machine) (memory : List ℕ) (w : Latest) (sound 
   after_call : (c : Call) → Next c (step m memory c)
   after_call (Call.Translate address access mode) = translation address access mode (goes m memory address access mode)
   after_call (Call.Store at value) = after_store at value
-  after_call (Call.LoadRoot value) = after-root value
-  after_call (Call.LoadSettings cr0 cr4 efer width) = after-settings cr0 cr4 efer width
-  after_call (Call.DropPage address) = after-page address
-  after_call Call.DropAll = after-all
-  after_call (Call.Invpcid kind number address) = after-invpcid kind number address
+  after_call (Call.LoadRoot value) = after_root value
+  after_call (Call.LoadSettings cr0 cr4 efer width) = after_settings cr0 cr4 efer width
+  after_call (Call.DropPage address) = after_page address
+  after_call Call.DropAll = after_all
+  after_call (Call.Invpcid kind number address) = after_invpcid kind number address
 
   -- guest stores
-  after-stores : (other : List ℕ) → Sound t n size (record { machine = m; memory = replaced memory other }) w
-  after-stores other =
+  after_stores : (other : List ℕ) → Sound t n size (record { machine = m; memory = replaced memory other }) w
+  after_stores other =
       record { sixteen = sound.sixteen; as_long = long (eqb (length other) (length memory)) refl ∙ sound.as_long; backed = sound.backed }
     where
       long : (b : Bool) → eqb (length other) (length memory) ≡ b → length (cond b other memory) ≡ length memory
@@ -251,7 +251,7 @@ module _ (t n size : ℕ) (m : Machine) (memory : List ℕ) (w : Latest) (sound 
 -- every event of a series
 after_event : (t n size : ℕ) (now : Stand) (w : Latest) → Sound t n size now w → (e : Event) → Sound t n size (leads now e) (noted_event t n now e w)
 after_event t n size now w sound (call c) = after_call t n size now.machine now.memory w sound c
-after_event t n size now w sound (stores other) = after-stores t n size now.machine now.memory w sound other
+after_event t n size now w sound (stores other) = after_stores t n size now.machine now.memory w sound other
 
 -- a whole series
 pub after_series : (t n size : ℕ) (now : Stand) (w : Latest) → Sound t n size now w → (es : List Event) → Sound t n size (run now es) (latest t n now es w)

@@ -68,7 +68,7 @@ backs_key s size w p k =
 
 -- A hit where each entry holds what the walk left: the fresh walk gives the same, and marks nothing.
 module _ (s under : Settings) (alike : Alike under s) (wide : 7 ≤ under.width) (same-root : root s ≡ root under)
-    (m₀ m : List ℕ) (as_long : length m₀ ≡ length m) (at address : VirtAddr) (same-page : tag at ≡ tag address) (how a : Way)
+    (m₀ m : List ℕ) (as_long : length m₀ ≡ length m) (at address : VirtAddr) (same_page : tag at ≡ tag address) (how a : Way)
     (found : Mapping) (h : walk_answer under at how m₀ ≡ Mapped found)
     (holds : Holds m (left_in (walk_memory under at how m₀) (entries (walk_path under at m₀)))) where
   abbrev then : Success (needed under how) (walk_path under at m₀) found
@@ -82,8 +82,8 @@ module _ (s under : Settings) (alike : Alike under s) (wide : 7 ≤ under.width)
       (holds_grew m (walk_memory under at how m₀) (entries (walk_path under at m₀)) holds)
 
   -- the path now
-  fresh-path : walk_path s address m ≡ walk_path under address m
-  fresh-path =
+  fresh_path : walk_path s address m ≡ walk_path under address m
+  fresh_path =
       λ i. path (says (sym alike.width_same i) (bit (sym alike.efer_same i) 11)) m address 4 (same-root i).0
 
   -- what the walk now finds
@@ -97,34 +97,34 @@ module _ (s under : Settings) (alike : Alike under s) (wide : 7 ≤ under.width)
         reads = reads (walk_path under address m);
       }
 
-  now-rights : rights (walk_path under address m) ≡ rights (walk_path under at m₀)
-  now-rights =
-      rights_now under.width (nxe under) wide (root under).0 (root_aligned under) m₀ m as_long at address same-page (writes how)
+  now_rights : rights (walk_path under address m) ≡ rights (walk_path under at m₀)
+  now_rights =
+      rights_now under.width (nxe under) wide (root under).0 (root_aligned under) m₀ m as_long at address same_page (writes how)
       then.last then.base then.at_end grew
 
-  now-finds : allow (needed s a) (rights (walk_path under at m₀)) ≡ true → walk_answer s address a m ≡ Mapped finds
-  now-finds allowed =
-      ap (walked (needed s a)) fresh-path
+  now_finds : allow (needed s a) (rights (walk_path under at m₀)) ≡ true → walk_answer s address a m ≡ Mapped finds
+  now_finds allowed =
+      ap (walked (needed s a)) fresh_path
       ∙ succeeds (needed s a) (walk_path under address m) (refreshed m then.last) then.base
-      (end_now under.width (nxe under) wide (root under).0 (root_aligned under) m₀ m as_long at address same-page (writes how)
+      (end_now under.width (nxe under) wide (root under).0 (root_aligned under) m₀ m as_long at address same_page (writes how)
       then.last then.base then.at_end grew)
-      (ap (allow (needed s a)) now-rights ∙ allowed)
+      (ap (allow (needed s a)) now_rights ∙ allowed)
 
-  now-memory : (allow (needed s a) (rights (walk_path under at m₀)) ≡ true) → (writes a ≡ true → (bit then.last.value 6 || writes how) ≡ true)
+  now_memory : (allow (needed s a) (rights (walk_path under at m₀)) ≡ true) → (writes a ≡ true → (bit then.last.value 6 || writes how) ≡ true)
       → walk_memory s address a m ≡ m
-  now-memory allowed dirty =
-      found_memory s address a m finds (now-finds allowed)
-      ∙ ap (λ (p : Path). marks (writes a) p m) fresh-path
-      ∙ memory_now under.width (nxe under) wide (root under).0 (root_aligned under) m₀ m as_long at address same-page (writes how)
+  now_memory allowed dirty =
+      found_memory s address a m finds (now_finds allowed)
+      ∙ ap (λ (p : Path). marks (writes a) p m) fresh_path
+      ∙ memory_now under.width (nxe under) wide (root under).0 (root_aligned under) m₀ m as_long at address same_page (writes how)
       then.last then.base then.at_end grew (writes a) dirty
 
   -- the answer of a hit is the fresh walk's
-  now-told : allow (needed s a) (rights (walk_path under at m₀)) ≡ true
+  now_told : allow (needed s a) (rights (walk_path under at m₀)) ≡ true
       → without_reads (hit address (place_of under at how found)) ≡ without_reads (answered s address a (walk_answer s address a m))
-  now-told allowed =
+  now_told allowed =
       ap (λ (f : Mapping). without_reads (hit address (place_of under at how f))) then.is_found
-      ∙ ap₂ (λ (x : PhysAddr) (n : ℕ). record { answer = 0; value = x.0; detail = then.last.level; reads = 0; memory_type = n }) one-frame one_type
-      ∙ ap (λ (w : Walked). without_reads (answered s address a w)) (sym (now-finds allowed))
+      ∙ ap₂ (λ (x : PhysAddr) (n : ℕ). record { answer = 0; value = x.0; detail = then.last.level; reads = 0; memory_type = n }) one_frame one_type
+      ∙ ap (λ (w : Walked). without_reads (answered s address a w)) (sym (now_finds allowed))
     where
       ending : Ending then.last then.base
       ending = its_ending under at how m₀ found h
@@ -132,14 +132,14 @@ module _ (s under : Settings) (alike : Alike under s) (wide : 7 ≤ under.width)
       one_type : memory_type then.last.level then.last.value ≡ memory_type then.last.level (load 8 m then.last.address)
       one_type =
           type_same then.last.level then.last.value (load 8 m then.last.address)
-          (last_grew under.width (nxe under) wide (root under).0 (root_aligned under) m₀ m as_long at address same-page (writes how)
+          (last_grew under.width (nxe under) wide (root under).0 (root_aligned under) m₀ m as_long at address same_page (writes how)
           then.last then.base then.at_end grew)
 
-      one-frame : in_frame (frame_of (plus (record { 0 = then.base }) (offset at then.last.level))) (offset address 1)
+      one_frame : in_frame (frame_of (plus (record { 0 = then.base }) (offset at then.last.level))) (offset address 1)
           ≡ plus (record { 0 = then.base }) (offset address then.last.level)
-      one-frame =
+      one_frame =
           rw (base_frame then.last.value then.last.level then.base ending.level_from ending.level_to ending.base_is)
-          (same_frame at address (then.base / 4096) then.last.level ending.level_from same-page)
+          (same_frame at address (then.base / 4096) then.last.level ending.level_from same_page)
 
   -- a place that serves has the rights and, for a write, the D that the access needs
   module _ (serving : serves (wanted s address a) (place_of under at how found) ≡ true) where
@@ -153,41 +153,41 @@ module _ (s under : Settings) (alike : Alike under s) (wide : 7 ≤ under.width)
     abbrev then_fetch : Bool
     then_fetch = every (λ (v : ℕ). not (bit v 63)) (entries (walk_path under at m₀))
 
-    rights-then : found.rights ≡ number then_write then_user then_fetch
-    rights-then = ap (λ (f : Mapping). f.rights) then.is_found
+    rights_then : found.rights ≡ number then_write then_user then_fetch
+    rights_then = ap (λ (f : Mapping). f.rights) then.is_found
 
     -- each flag wanted is there
-    all-given : all_given (needs_write s a) a.user (fetches a) (writes a) (bit found.rights 0) (bit found.rights 1) (bit found.rights 2) (bit found.last 6 || writes how) ≡ true
-    all-given =
+    all_given_lem : all_given (needs_write s a) a.user (fetches a) (writes a) (bit found.rights 0) (bit found.rights 1) (bit found.rights 2) (bit found.last 6 || writes how) ≡ true
+    all_given_lem =
         sym (flags_each (needs_write s a) a.user (fetches a) (writes a) (bit found.rights 0) (bit found.rights 1) (bit found.rights 2)
         (bit found.last 6 || writes how) (bit found.last 8 && pge under))
         ∙ (serves_has (wanted s address a) (place_of under at how found) serving).has_flags
 
-    has-two : (given (needs_write s a) (bit found.rights 0) && given a.user (bit found.rights 1) ≡ true)
+    has_two : (given (needs_write s a) (bit found.rights 0) && given a.user (bit found.rights 1) ≡ true)
         × (given (fetches a) (bit found.rights 2) && given (writes a) (bit found.last 6 || writes how) ≡ true)
-    has-two = and_true _ _ all-given
+    has_two = and_true _ _ all_given_lem
 
     has_first : (given (needs_write s a) (bit found.rights 0) ≡ true) × (given a.user (bit found.rights 1) ≡ true)
-    has_first = and_true _ _ has-two.0
+    has_first = and_true _ _ has_two.0
 
-    has-second : (given (fetches a) (bit found.rights 2) ≡ true) × (given (writes a) (bit found.last 6 || writes how) ≡ true)
-    has-second = and_true _ _ has-two.1
+    has_second : (given (fetches a) (bit found.rights 2) ≡ true) × (given (writes a) (bit found.last 6 || writes how) ≡ true)
+    has_second = and_true _ _ has_two.1
 
     enough : allow (needed s a) (rights (walk_path under at m₀)) ≡ true
     enough =
         given_allow (needs_write s a) a.user (fetches a) (nxe s) then_write then_user then_fetch
-        (subst (λ (x : Bool). given (needs_write s a) x ≡ true) (ap (λ (n : ℕ). bit n 0) rights-then ∙ number_write then_write then_user then_fetch) has_first.0)
-        (subst (λ (x : Bool). given a.user x ≡ true) (ap (λ (n : ℕ). bit n 1) rights-then ∙ number_user then_write then_user then_fetch) has_first.1)
-        (subst (λ (x : Bool). given (fetches a) x ≡ true) (ap (λ (n : ℕ). bit n 2) rights-then ∙ number_fetch then_write then_user then_fetch) has-second.0)
+        (subst (λ (x : Bool). given (needs_write s a) x ≡ true) (ap (λ (n : ℕ). bit n 0) rights_then ∙ number_write then_write then_user then_fetch) has_first.0)
+        (subst (λ (x : Bool). given a.user x ≡ true) (ap (λ (n : ℕ). bit n 1) rights_then ∙ number_user then_write then_user then_fetch) has_first.1)
+        (subst (λ (x : Bool). given (fetches a) x ≡ true) (ap (λ (n : ℕ). bit n 2) rights_then ∙ number_fetch then_write then_user then_fetch) has_second.0)
 
     pub hit_told : without_reads (hit address (place_of under at how found)) ≡ without_reads (answered s address a (walk_answer s address a m))
-    hit_told = now-told enough
+    hit_told = now_told enough
 
     pub hit_memory : walk_memory s address a m ≡ m
     hit_memory =
-        now-memory enough
+        now_memory enough
         (λ h. subst (λ (v : ℕ). (bit v 6 || writes how) ≡ true) (ap (λ (f : Mapping). f.last) then.is_found)
-        (given_there (writes a) (bit found.last 6 || writes how) has-second.1 h))
+        (given_there (writes a) (bit found.last 6 || writes how) has_second.1 h))
 
 -- where the root is the walk's and each entry holds what it left, a hit on its place is what a fresh walk gives
 pub hit_fresh : (s : Settings) (size : ℕ) (w : Walk) (p : Place) → Backs s size w p → (address : VirtAddr) (a : Way) (m : List ℕ)
@@ -195,21 +195,21 @@ pub hit_fresh : (s : Settings) (size : ℕ) (w : Walk) (p : Place) → Backs s s
     → (without_reads (hit address p) ≡ without_reads (answered s address a (walk_answer s address a m))) × (m ≡ walk_memory s address a m)
 hit_fresh s size w p k address a m long same-root holds serving = (
   ap (λ (q : Place). without_reads (hit address q)) k.is_place
-      ∙ hit_told s k.under k.alike k.wide root-then k.memory m as-long-now k.at address same-page k.how a k.found k.walk_found holds_then serving-then,
-  sym (hit_memory s k.under k.alike k.wide root-then k.memory m as-long-now k.at address same-page k.how a k.found k.walk_found holds_then serving-then),
+      ∙ hit_told s k.under k.alike k.wide root_then k.memory m as_long_now k.at address same_page k.how a k.found k.walk_found holds_then serving_then,
+  sym (hit_memory s k.under k.alike k.wide root_then k.memory m as_long_now k.at address same_page k.how a k.found k.walk_found holds_then serving_then),
 )
   where
-    serving-then : serves (wanted s address a) (place_of k.under k.at k.how k.found) ≡ true
-    serving-then = ap (serves (wanted s address a)) (sym k.is_place) ∙ serving
+    serving_then : serves (wanted s address a) (place_of k.under k.at k.how k.found) ≡ true
+    serving_then = ap (serves (wanted s address a)) (sym k.is_place) ∙ serving
 
-    same-page : tag k.at ≡ tag address
-    same-page = (serves_has (wanted s address a) (place_of k.under k.at k.how k.found) serving-then).same_tag
+    same_page : tag k.at ≡ tag address
+    same_page = (serves_has (wanted s address a) (place_of k.under k.at k.how k.found) serving_then).same_tag
 
-    root-then : root s ≡ root k.under
-    root-then = same-root ∙ ap (λ (v : Walk). v.root) k.is_walk
+    root_then : root s ≡ root k.under
+    root_then = same-root ∙ ap (λ (v : Walk). v.root) k.is_walk
 
-    as-long-now : length k.memory ≡ length m
-    as-long-now = k.as_long ∙ sym long
+    as_long_now : length k.memory ≡ length m
+    as_long_now = k.as_long ∙ sym long
 
     holds_then : Holds m (left_in (walk_memory k.under k.at k.how k.memory) (entries (walk_path k.under k.at k.memory)))
     holds_then = subst (λ (v : Walk). Holds m v.entries) k.is_walk holds

@@ -101,14 +101,14 @@ marks_dirty (ends (page e base)) m all placed = marked_dirty m e.address placed.
 marks_dirty (next e p) m all placed =
     dirty_stays (marks true p m) (mark false (marks true p m) e.address) (end_of p)
     (λ f f-aligned. marked_grown false (marks true p m) e.address f.address all.0 f-aligned)
-    (same-placed (end_of p) placed)
+    (same_placed (end_of p) placed)
     (marks_dirty p m all.1 placed)
   where
-    same-placed : (x : End) → PlacedEnd m x → PlacedEnd (marks true p m) x
-    same-placed (outside l at) h = tt
-    same-placed (missing e) h = tt
-    same-placed (reserved e) h = tt
-    same-placed (page e base) h = (h.0, let low = h.1 in omega (arith, marks_length true p m))
+    same_placed : (x : End) → PlacedEnd m x → PlacedEnd (marks true p m) x
+    same_placed (outside l at) h = tt
+    same_placed (missing e) h = tt
+    same_placed (reserved e) h = tt
+    same_placed (page e base) h = (h.0, let low = h.1 in omega (arith, marks_length true p m))
 
 -- where the bits are set, marks change nothing
 pub marks_none : (write : Bool) (p : Path) (m : List ℕ) → All (Accessed m) (entries p) → (write ≡ true → DirtyEnd m (end_of p))

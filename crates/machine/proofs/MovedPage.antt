@@ -103,28 +103,28 @@ run_append now (e ∷ es) fs = run_append (leads now e) es fs
 
 pub press_arrives : PressArrives
 press_arrives s memory before dropped moved press access mode form same =
-    first_half s memory (before ++ drop-and-stores) press access mode
-    (subst (Premise (run (start s memory) (before ++ drop-and-stores))) (sym nothing_known) tt)
+    first_half s memory (before ++ drop_and_stores) press access mode
+    (subst (Premise (run (start s memory) (before ++ drop_and_stores))) (sym nothing_known) tt)
   where
-    drop-and-stores : List Event
-    drop-and-stores = call (Call.DropPage dropped) ∷ stores moved ∷ []
+    drop_and_stores : List Event
+    drop_and_stores = call (Call.DropPage dropped) ∷ stores moved ∷ []
 
     there : Stand
     there = run (start s memory) before
 
-    number-then : present_number (run (start s memory) (before ++ drop-and-stores)) ≡ present_number there
-    number-then = ap present_number (run_append (start s memory) before drop-and-stores) ∙ same_number dropped moved there
+    number_then : present_number (run (start s memory) (before ++ drop_and_stores)) ≡ present_number there
+    number_then = ap present_number (run_append (start s memory) before drop_and_stores) ∙ same_number dropped moved there
 
-    nothing_known : latest (tag press) (present_number (run (start s memory) (before ++ drop-and-stores))) (start s memory) (before ++ drop-and-stores) none ≡ none
+    nothing_known : latest (tag press) (present_number (run (start s memory) (before ++ drop_and_stores))) (start s memory) (before ++ drop_and_stores) none ≡ none
     nothing_known =
-        ap (λ (n : ℕ). latest (tag press) n (start s memory) (before ++ drop-and-stores) none) number-then
-        ∙ latest_append (tag press) (present_number there) (start s memory) before drop-and-stores none
+        ap (λ (n : ℕ). latest (tag press) n (start s memory) (before ++ drop_and_stores) none) number_then
+        ∙ latest_append (tag press) (present_number there) (start s memory) before drop_and_stores none
         ∙ known_none dropped (tag press) form same moved there _ (kept (tag press) (present_number there) (start s memory) before none tt)
 
 pub press_lost : PressLost
 unfolding run
 press_lost s memory before moved press access mode success =
-    second_half s memory before press press access mode [] (stores moved ∷ []) success refl (lit≤ tt) tt settings-stay
+    second_half s memory before press press access mode [] (stores moved ∷ []) success refl (lit≤ tt) tt settings_stay
   where
-    settings-stay : present_number (pressed_and_moved (run (start s memory) before) press access mode moved) ≡ present_number (run (start s memory) before)
-    settings-stay = ap space_number (settings_kept (run (start s memory) before).machine (run (start s memory) before).memory press access mode)
+    settings_stay : present_number (pressed_and_moved (run (start s memory) before) press access mode moved) ≡ present_number (run (start s memory) before)
+    settings_stay = ap space_number (settings_kept (run (start s memory) before).machine (run (start s memory) before).memory press access mode)

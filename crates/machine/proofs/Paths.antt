@@ -73,14 +73,14 @@ deep : (l : ℕ) → 7 ≤ page_bits (suc l)
 deep l = omega arith
 
 module _ (width : ℕ) (nxe : Bool) (wide : 7 ≤ width) (m m' : List ℕ) (as_long : length m ≡ length m')
-    (va va' : VirtAddr) (same-page : tag va ≡ tag va') where
+    (va va' : VirtAddr) (same_page : tag va ≡ tag va') where
   -- a path whose entries only grew is read again as the same path
   pub path_again : (l base : ℕ) → All (Kept m') (entries (path (says width nxe) m va l base))
       → path (says width nxe) m' va' l base ≡ reread m' (path (says width nxe) m va l base)
   unfolding path
   path_again zero base kept = refl
   path_again (suc l) base kept =
-      rw (← (index_same va va' l same-page), ← as_long)
+      rw (← (index_same va va' l same_page), ← as_long)
       (go (inside m (base + 8 * index va (suc l))) (path_again l) kept)
     where
       at : ℕ

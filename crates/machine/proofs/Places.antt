@@ -83,18 +83,18 @@ module _ (s : Settings) (va : VirtAddr) (a : Way) (m : List ℕ) (found : Mappin
   pub its : Success (needed s a) its_path found
   its = success (needed s a) its_path found h
 
-  its-end : IsPage (end_of its_path)
-  its-end = rw its.at_end tt
+  its_end : IsPage (end_of its_path)
+  its_end = rw its.at_end tt
 
-  its-reads : All (Read (nxe s) m) (entries its_path)
-  its-reads = (read_path s.width (nxe s) m va 4 (root s).0 (root_aligned s) its-end).0
+  its_reads : All (Read (nxe s) m) (entries its_path)
+  its_reads = (read_path s.width (nxe s) m va 4 (root s).0 (root_aligned s) its_end).0
 
   pub its_ending : Ending its.last its.base
-  its_ending = (subst (AtPage (nxe s) m) its.at_end (read_path s.width (nxe s) m va 4 (root s).0 (root_aligned s) its-end).1).1
+  its_ending = (subst (AtPage (nxe s) m) its.at_end (read_path s.width (nxe s) m va 4 (root s).0 (root_aligned s) its_end).1).1
 
   -- a success read something
   pub found_reads : 1 ≤ found.reads
-  found_reads = rw its.is_found (reads_some its_path its-end)
+  found_reads = rw its.is_found (reads_some its_path its_end)
 
   -- the memory that a success leaves
   pub found_memory : walk_memory s va a m ≡ marks (writes a) its_path m
@@ -132,15 +132,15 @@ module _ (s : Settings) (va : VirtAddr) (a : Way) (m : List ℕ) (found : Mappin
   found_serves s' later alike same one_number =
       rw (← (wanted_same s s' va later a alike same one_number))
       (has_serves (wanted s va a) (place_of s va a found)
-      (record { same_tag = refl; has_flags = its-flags; is_mine = own_number (has_g (place_of s va a found)) (space_number s) }))
+      (record { same_tag = refl; has_flags = its_flags; is_mine = own_number (has_g (place_of s va a found)) (space_number s) }))
     where
       each : (given (needs_write s a) all_write_lem ≡ true) × (given a.user all_user_lem ≡ true) × (given (fetches a) all_fetch_lem ≡ true)
       each =
           allow_given (needs_write s a) a.user (fetches a) (nxe s) all_write_lem all_user_lem all_fetch_lem
-          (none_disabled (nxe s) m (entries its_path) its-reads) its.allowed
+          (none_disabled (nxe s) m (entries its_path) its_reads) its.allowed
 
-      its-flags : includes (wanted s va a).flags (place_of s va a found).flags ≡ true
-      its-flags =
+      its_flags : includes (wanted s va a).flags (place_of s va a found).flags ≡ true
+      its_flags =
           flags_each (needs_write s a) a.user (fetches a) (writes a) (bit found.rights 0) (bit found.rights 1) (bit found.rights 2)
           (bit found.last 6 || writes a) (bit found.last 8 && pge s)
           ∙ rw (
@@ -156,9 +156,9 @@ module _ (s : Settings) (va : VirtAddr) (a : Way) (m : List ℕ) (found : Mappin
   -- its key is that of the walk
   pub found_key : (left : List ℕ) → key_of (place_of s va a found) ≡ (walk_of s va m left).key
   found_key left =
-      (λ i. record { tag = tag va; size = (its.is_found i).size; number = space_number s; global = its-global i }) ∙ ap (key_at s va) (sym its.at_end)
+      (λ i. record { tag = tag va; size = (its.is_found i).size; number = space_number s; global = its_global i }) ∙ ap (key_at s va) (sym its.at_end)
     where
-      its-global : has_g (place_of s va a found) ≡ (bit its.last.value 8 && pge s)
-      its-global =
+      its_global : has_g (place_of s va a found) ≡ (bit its.last.value 8 && pge s)
+      its_global =
           flags_global (bit found.rights 0) (bit found.rights 1) (bit found.rights 2) (bit found.last 6 || writes a) (bit found.last 8 && pge s)
           ∙ ap (λ (f : Mapping). bit f.last 8 && pge s) its.is_found

@@ -96,15 +96,15 @@ module _ (width : ℕ) (nxe : Bool) (m : List ℕ) where
   entry_read l at v rest is in_memory is-aligned clear =
       record { value_is = is; lies_inside = in_memory; aligned = is-aligned; executable = clear_xd (above_width width v) (bit v 63) nxe rest clear }
 
-  onward-read : (l at v : ℕ) (x : Says) (rest : ℕ → Path) → 1 ≤ l → v ≡ load 8 m at → at < length m → at % 8 ≡ 0
+  onward_read : (l at v : ℕ) (x : Says) (rest : ℕ → Path) → 1 ≤ l → v ≡ load 8 m at → at < length m → at % 8 ≡ 0
       → says width nxe l v ≡ x
       → ((table : ℕ) → table % 8 ≡ 0 → IsPage (end_of (rest table)) → Reads (rest table))
       → IsPage (end_of (onward x (record { level = l; address = at; value = v }) rest))
       → Reads (onward x (record { level = l; address = at; value = v }) rest)
   unfolding entries end_of
-  onward-read l at v Says.Missing rest low is in_memory is-aligned tells below ok = absurd ok
-  onward-read l at v Says.Reserved rest low is in_memory is-aligned tells below ok = absurd ok
-  onward-read l at v (Says.Page base) rest low is in_memory is-aligned tells below ok =
+  onward_read l at v Says.Missing rest low is in_memory is-aligned tells below ok = absurd ok
+  onward_read l at v Says.Reserved rest low is in_memory is-aligned tells below ok = absurd ok
+  onward_read l at v (Says.Page base) rest low is in_memory is-aligned tells below ok =
       let h = says_page (bit v 0) (is_reserved width nxe l v) (is_page l v) l v base tells in
       let r = entry_read l at v (size_too_large l v || inside_page l v) is in_memory is-aligned h.0 in
       let end : Ending (record { level = l; address = at; value = v }) base.0 =
@@ -114,7 +114,7 @@ module _ (width : ℕ) (nxe : Bool) (m : List ℕ) where
         base_is = ap (λ (b : PhysAddr). b.0) (sym h.2);
       } in
       ((r, tt), (r, end))
-  onward-read l at v (Says.Table base) rest low is in_memory is-aligned tells below ok =
+  onward_read l at v (Says.Table base) rest low is in_memory is-aligned tells below ok =
       let h = says_table (bit v 0) (is_reserved width nxe l v) (is_page l v) l v base tells in
       let r = entry_read l at v (size_too_large l v || inside_page l v) is in_memory is-aligned h.0 in
       let table : base.0 ≡ field v 12 40 * 4096 = ap (λ (b : PhysAddr). b.0) (sym h.2) in
@@ -141,6 +141,6 @@ module _ (width : ℕ) (nxe : Bool) (m : List ℕ) where
           → IsPage (end_of (cond b here (ends (outside (suc l) at)))) → Reads (cond b here (ends (outside (suc l) at)))
       go true is-inside below ok =
           let h = leb-true (at + 8) (length m) is-inside in
-          onward-read (suc l) at (load 8 m at) (says width nxe (suc l) (load 8 m at)) (λ (table : ℕ). path (says width nxe) m va l table)
+          onward_read (suc l) at (load 8 m at) (says width nxe (suc l) (load 8 m at)) (λ (table : ℕ). path (says width nxe) m va l table)
           (omega arith) refl (omega arith) (omega arith) refl below ok
       go false is-inside below ok = absurd ok

@@ -83,7 +83,7 @@ reads_some (ends (page e base)) ok = omega arith
 reads_some (next e p) ok = omega arith
 
 module _ (width : ℕ) (nxe : Bool) (wide : 7 ≤ width) (root : ℕ) (root_aligned : root % 8 ≡ 0) (m₀ m : List ℕ) (as_long : length m₀ ≡ length m)
-    (first later : VirtAddr) (same-page : tag first ≡ tag later) (write₀ : Bool) (e : Entry) (b : ℕ) where
+    (first later : VirtAddr) (same_page : tag first ≡ tag later) (write₀ : Bool) (e : Entry) (b : ℕ) where
   -- the path then
   abbrev before : Path
   before = path (says width nxe) m₀ first 4 root
@@ -97,17 +97,17 @@ module _ (width : ℕ) (nxe : Bool) (wide : 7 ≤ width) (root : ℕ) (root_alig
   Grew = All (λ (f : Entry). Grown (load 8 (marks write₀ before m₀) f.address) (load 8 m f.address)) (entries before)
 
   module _ (at_end : end_of before ≡ page e b) (grew : Grew) where
-    was-page : IsPage (end_of before)
-    was-page = rw at_end tt
+    was_page : IsPage (end_of before)
+    was_page = rw at_end tt
 
     was_read : All (Read nxe m₀) (entries before)
-    was_read = (read_path width nxe m₀ first 4 root root_aligned was-page).0
+    was_read = (read_path width nxe m₀ first 4 root root_aligned was_page).0
 
-    was-aligned : All Aligned (entries before)
-    was-aligned = all_map (λ f r g. r.aligned) (entries before) was_read was_read
+    was_aligned : All Aligned (entries before)
+    was_aligned = all_map (λ f r g. r.aligned) (entries before) was_read was_read
 
-    was-inside : All (λ f. f.address < length m₀) (entries before)
-    was-inside = all_map (λ f r g. r.lies_inside) (entries before) was_read was_read
+    was_inside : All (λ f. f.address < length m₀) (entries before)
+    was_inside = all_map (λ f r g. r.lies_inside) (entries before) was_read was_read
 
     pub last_read : Read nxe m₀ e
     last_read = last_has (Read nxe m₀) before e b at_end was_read
@@ -116,10 +116,10 @@ module _ (width : ℕ) (nxe : Bool) (wide : 7 ≤ width) (root : ℕ) (root_alig
     kept = all_map grows (entries before) was_read grew
       where
         grows : (f : Entry) → Read nxe m₀ f → Grown (load 8 (marks write₀ before m₀) f.address) (load 8 m f.address) → Kept m f
-        grows f r g = rw r.value_is (grown_trans (marks_grown write₀ before m₀ f.address r.aligned was-aligned) g)
+        grows f r g = rw r.value_is (grown_trans (marks_grown write₀ before m₀ f.address r.aligned was_aligned) g)
 
     again : now ≡ reread m before
-    again = path_again width nxe wide m₀ m as_long first later same-page 4 root kept
+    again = path_again width nxe wide m₀ m as_long first later same_page 4 root kept
 
     pub end_now : end_of now ≡ page (refreshed m e) b
     end_now = ap end_of again ∙ end_again m before ∙ ap (reread_end m) at_end
@@ -134,30 +134,30 @@ module _ (width : ℕ) (nxe : Bool) (wide : 7 ≤ width) (root : ℕ) (root_alig
     pub reads_now : reads now ≡ reads before
     reads_now = ap (λ (p : Path). reads p) again ∙ reads_again m before
 
-    accessed-now : All (Accessed m) (entries before)
-    accessed-now =
+    accessed_now : All (Accessed m) (entries before)
+    accessed_now =
         all_map (λ f g a. accessed_stays (marks write₀ before m₀) m f g a) (entries before) grew
-        (marks_accessed write₀ before m₀ was-page was-aligned was-inside)
+        (marks_accessed write₀ before m₀ was_page was_aligned was_inside)
 
     placed : PlacedEnd m₀ (end_of before)
     placed = rw at_end (last_read.aligned, last_read.lies_inside)
 
     -- where the page was dirty or the walk was for a write, its entry is dirty now
-    dirty-now : (was written : Bool) → bit e.value 6 ≡ was → write₀ ≡ written → (was || written) ≡ true → load 8 m e.address / 64 % 2 ≡ 1
-    dirty-now true written is-was is-written h =
+    dirty_now : (was written : Bool) → bit e.value 6 ≡ was → write₀ ≡ written → (was || written) ≡ true → load 8 m e.address / 64 % 2 ≡ 1
+    dirty_now true written is-was is-written h =
         let g = (last_has (Kept m) before e b at_end kept).dirty in
         let six = eqb-true (e.value / 64 % 2) 1 is-was in
         set_stays (e.value / 64) (load 8 m e.address / 64) g six
-    dirty-now false written is-was is-written h =
+    dirty_now false written is-was is-written h =
         let g = (last_has (λ (f : Entry). Grown (load 8 (marks write₀ before m₀) f.address) (load 8 m f.address)) before e b at_end grew).dirty in
         let six : load 8 (marks write₀ before m₀) e.address / 64 % 2 ≡ 1 =
         subst (λ (w : Bool). load 8 (marks w before m₀) e.address / 64 % 2 ≡ 1) (sym (is-written ∙ h))
-        (subst (DirtyEnd (marks true before m₀)) at_end (marks_dirty before m₀ was-aligned placed)) in
+        (subst (DirtyEnd (marks true before m₀)) at_end (marks_dirty before m₀ was_aligned placed)) in
         set_stays (load 8 (marks write₀ before m₀) e.address / 64) (load 8 m e.address / 64) g six
 
     -- the marks of the walk now change nothing
     pub memory_now : (write : Bool) → (write ≡ true → (bit e.value 6 || write₀) ≡ true) → marks write now m ≡ m
     memory_now write dirty =
         ap (λ (p : Path). marks write p m) again ∙ marks_again write m m before
-        ∙ marks_none write before m accessed-now
-        (λ h. subst (DirtyEnd m) (sym at_end) (dirty-now (bit e.value 6) write₀ refl refl (dirty h)))
+        ∙ marks_none write before m accessed_now
+        (λ h. subst (DirtyEnd m) (sym at_end) (dirty_now (bit e.value 6) write₀ refl refl (dirty h)))

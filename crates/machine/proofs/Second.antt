@@ -68,64 +68,64 @@ module _ (now : Stand) (sixteen : Sixteen now.machine.cache) (first later : Virt
       → numbers (gives (run (record { machine = r.machine; memory = r.memory }) between) (Call.Translate later access mode)).answer
       ≡ again (numbers r.answer) later
 
-  after-fill : (a : Way) (f : Mapping) → asked s first access mode ≡ Asked.On a → walk_answer s first a now.memory ≡ Walked.Mapped f
+  after_fill : (a : Way) (f : Mapping) → asked s first access mode ≡ Asked.On a → walk_answer s first a now.memory ≡ Walked.Mapped f
       → Promise (filled_result now.machine now.memory first access mode a f)
-  after-fill a f on found success spared one_number =
-      ap numbers (hit_result end.machine end.memory later access mode a (place_of s first a f) on-later find-later)
+  after_fill a f on found success spared one_number =
+      ap numbers (hit_result end.machine end.memory later access mode a (place_of s first a f) on_later find_later)
       ∙ again_numbers s first later a f
     where
-      filled-now : Machine
-      filled-now = with_cache now.machine (fill_cache (place_of s first a f) now.machine.cache)
+      filled_now : Machine
+      filled_now = with_cache now.machine (fill_cache (place_of s first a f) now.machine.cache)
 
       end : Stand
-      end = run (record { machine = filled-now; memory = walk_memory s first a now.memory }) between
+      end = run (record { machine = filled_now; memory = walk_memory s first a now.memory }) between
 
-      its-walk : Walk
-      its-walk = walk_of s first now.memory (walk_memory s first a now.memory)
+      its_walk : Walk
+      its_walk = walk_of s first now.memory (walk_memory s first a now.memory)
 
-      its-key : key_of (place_of s first a f) ≡ its-walk.key
-      its-key = found_key s first a now.memory f found (walk_memory s first a now.memory)
+      its_key : key_of (place_of s first a f) ≡ its_walk.key
+      its_key = found_key s first a now.memory f found (walk_memory s first a now.memory)
 
-      is-due : Due s first access mode a
-      is-due = due s first access mode a on
+      is_due : Due s first access mode a
+      is_due = due s first access mode a on
 
-      is-filled : filled_in (set_index (tag first)) (place_of s first a f) ≡ true
-      is-filled = found_filled s first a now.memory f found is-due.is_canonical
+      is_filled : filled_in (set_index (tag first)) (place_of s first a f) ≡ true
+      is_filled = found_filled s first a now.memory f found is_due.is_canonical
 
-      at_first : Remembers (tag first) pages at_most (place_of s first a f) refl its-walk its-key s filled-now
+      at_first : Remembers (tag first) pages at_most (place_of s first a f) refl its_walk its_key s filled_now
       at_first =
           record {
             stays_in = record {
               sixteen = fill_sixteen (place_of s first a f) now.machine.cache sixteen;
               front = [];
               rest = take 3 (keep (spares (place_of s first a f)) (held (set_index (tag first)) now.machine.cache));
-              is_held = held_fill (place_of s first a f) now.machine.cache sixteen is-filled;
+              is_held = held_fill (place_of s first a f) now.machine.cache sixteen is_filled;
               few = tt;
               apart = tt;
             };
             alike = record { cr0_same = refl; cr4_same = refl; efer_same = refl; width_same = refl };
-            serving = is-due.is_served;
+            serving = is_due.is_served;
           }
 
-      at_end : Remembers (tag first) pages at_most (place_of s first a f) refl its-walk its-key s end.machine
+      at_end : Remembers (tag first) pages at_most (place_of s first a f) refl its_walk its_key s end.machine
       at_end =
-          remembered (tag first) pages at_most (place_of s first a f) refl its-walk its-key s
-          (record { machine = filled-now; memory = walk_memory s first a now.memory }) between at_first
+          remembered (tag first) pages at_most (place_of s first a f) refl its_walk its_key s
+          (record { machine = filled_now; memory = walk_memory s first a now.memory }) between at_first
           spared
 
-      on-later : asked end.machine.settings later access mode ≡ Asked.On a
-      on-later = due_again s end.machine.settings first later access mode a at_end.alike at_end.serving (sym same) is-due
+      on_later : asked end.machine.settings later access mode ≡ Asked.On a
+      on_later = due_again s end.machine.settings first later access mode a at_end.alike at_end.serving (sym same) is_due
 
-      find-later : find_cache (wanted end.machine.settings later a) end.machine.cache ≡ Found.At (place_of s first a f)
-      find-later =
-          found_again (tag first) pages at_most (place_of s first a f) refl its-walk its-key s end.machine (wanted end.machine.settings later a) same
+      find_later : find_cache (wanted end.machine.settings later a) end.machine.cache ≡ Found.At (place_of s first a f)
+      find_later =
+          found_again (tag first) pages at_most (place_of s first a f) refl its_walk its_key s end.machine (wanted end.machine.settings later a) same
           (found_serves s first a now.memory f found end.machine.settings later at_end.alike (sym same) (sym one_number)) at_end
 
   promised : Goes now.machine now.memory first access mode → Promise (gives now (Call.Translate first access mode))
   promised (quiet r no-success no-fault is fresh-is left_is) =
       subst Promise (sym is) (λ success. contradiction success no-success)
   promised (hits a p found is fresh-is left_is) = subst Promise (sym is) (λ success. contradiction success refl)
-  promised (fills a f on found is fresh-is left_is) = subst Promise (sym is) (after-fill a f on found)
+  promised (fills a f on found is fresh-is left_is) = subst Promise (sym is) (after_fill a f on found)
   promised (Ways.drops r no-success fault is fresh-is left_is) = subst Promise (sym is) (λ success. contradiction success no-success)
 
 -- the second half

@@ -71,18 +71,18 @@ module _ (t n : ℕ) (s : Settings) (before after : List ℕ) (address : VirtAdd
   pub noted_walk : walked_for t n s address before r ≡ true → noted t n s before this r after w ≡ walk (walk_of s address before after)
   noted_walk walked = rw walked
 
-  not-walked : succeeded r ≡ false → walked_for t n s address before r ≡ false
-  not-walked h = go (eqb (tag address) t)
+  not_walked : succeeded r ≡ false → walked_for t n s address before r ≡ false
+  not_walked h = go (eqb (tag address) t)
     where
       go : (b : Bool) → ((b && succeeded r) && mine n (key_at s address (end_of (walk_path s address before)))) ≡ false
       go true = rw h
       go false = refl
 
   pub noted_quiet : succeeded r ≡ false → faulted r ≡ false → noted t n s before this r after w ≡ w
-  noted_quiet no-success no-fault = noted_other (not-walked no-success) no-fault
+  noted_quiet no-success no-fault = noted_other (not_walked no-success) no-fault
 
   pub noted_drop : succeeded r ≡ false → faulted r ≡ true → noted t n s before this r after w ≡ forgotten its_drop w
-  noted_drop no-success fault = rw (not-walked no-success, fault)
+  noted_drop no-success fault = rw (not_walked no-success, fault)
 
 -- What the cache holds of a page after a change.
 
@@ -96,21 +96,21 @@ module _ (t n size : ℕ) (s : Settings) (w : Latest) (c : Cache) (sixteen : Six
 
   -- a fill of the page leaves the new place
   pub filled_own : (p : Place) → p.tag ≡ t → mine n (key_of p) ≡ true → filled_in (set_index p.tag) p ≡ true → Backed s size w p → Has (Own t n s size w) (held (set_index t) (fill_cache p c))
-  filled_own p same own_number is-filled new =
+  filled_own p same own_number is_filled new =
       subst (λ (u : ℕ). Has (Own t n s size w) (held (set_index u) (fill_cache p c))) same
-      (subst (Has (Own t n s size w)) (sym (held_fill p c sixteen is-filled))
+      (subst (Has (Own t n s size w)) (sym (held_fill p c sixteen is_filled))
       (has_take (Own t n s size w) 4 (p ∷ keep (spares p) (held (set_index p.tag) c))
       ((λ tag_same number_same. new), keep_has (spares p) (λ q spared own its-number. contradiction its-number (fill_takes n p q (own ∙ sym same) own_number spared)) (held (set_index p.tag) c))))
 
   -- a fill of another page, or under another number, leaves what is backed
   pub filled_other : (p : Place) → (p.tag ≡ t → mine n (key_of p) ≡ true → ⊥) → filled_in (set_index p.tag) p ≡ true → Has (Own t n s size w) (held (set_index t) c)
       → Has (Own t n s size w) (held (set_index t) (fill_cache p c))
-  filled_other p other is-filled h = go (ℕ_discrete (set_index t) (set_index p.tag))
+  filled_other p other is_filled h = go (ℕ_discrete (set_index t) (set_index p.tag))
     where
       go : Dec (set_index t ≡ set_index p.tag) → Has (Own t n s size w) (held (set_index t) (fill_cache p c))
       go (yes same) =
           subst (λ (i : ℕ). Has (Own t n s size w) (held i (fill_cache p c))) (sym same)
-          (subst (Has (Own t n s size w)) (sym (held_fill p c sixteen is-filled))
+          (subst (Has (Own t n s size w)) (sym (held_fill p c sixteen is_filled))
           (has_take (Own t n s size w) 4 (p ∷ keep (spares p) (held (set_index p.tag) c)) (
             (λ tag_same number_same. absurd (other tag_same number_same)),
             has_keep (spares p) (λ q spared own. own) (held (set_index p.tag) c) (subst (λ (i : ℕ). Has (Own t n s size w) (held i c)) same h),

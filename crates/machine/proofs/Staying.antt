@@ -75,14 +75,14 @@ module _ (t : ℕ) (pages : List Numbered) (at_most : length pages ≤ others) (
       }
 
   -- a drop that does not take the walk's place
-  drop-stays : (d : Drop) (c : Cache) → takes d w.key ≡ false → Stays t pages p c → Stays t pages p (drop_cache d c)
-  drop-stays d c spared k =
+  drop_stays : (d : Drop) (c : Cache) → takes d w.key ≡ false → Stays t pages p c → Stays t pages p (drop_cache d c)
+  drop_stays d c spared k =
       filtered (left d) c (drop_cache d c) (ap not (ap (takes d) same_key ∙ spared)) (drop_sixteen d c) (held_drop d c (set_index t)) k
 
   -- a fill of another page, which is one of the list where it is of the same set
-  fill-stays : (q : Place) (c : Cache) → (t ≡ q.tag → ⊥) → filled_in (set_index q.tag) q ≡ true
+  fill_stays : (q : Place) (c : Cache) → (t ≡ q.tag → ⊥) → filled_in (set_index q.tag) q ≡ true
       → (set_index q.tag ≡ set_index t → listed (numbered q) pages ≡ true) → Stays t pages p c → Stays t pages p (fill_cache q c)
-  fill-stays q c other is-filled counts k = go (ℕ_discrete (set_index t) (set_index q.tag))
+  fill_stays q c other is_filled counts k = go (ℕ_discrete (set_index t) (set_index q.tag))
     where
       go : Dec (set_index t ≡ set_index q.tag) → Stays t pages p (fill_cache q c)
       go (yes same) =
@@ -95,7 +95,7 @@ module _ (t : ℕ) (pages : List Numbered) (at_most : length pages ≤ others) (
             front = q ∷ keep (spares q) k.front;
             rest = fits.0;
             is_held =
-                ap (λ (i : ℕ). held i (fill_cache q c)) same ∙ held_fill q c k.sixteen is-filled
+                ap (λ (i : ℕ). held i (fill_cache q c)) same ∙ held_fill q c k.sixteen is_filled
                 ∙ ap (λ (l : List Place). take 4 (q ∷ keep (spares q) l)) (ap (λ (i : ℕ). held i c) (sym same) ∙ k.is_held)
                 ∙ ap (λ (l : List Place). take 4 (q ∷ l)) (keep_around (spares q) k.front p k.rest (fill_leaves q p (λ e. other (sym own ∙ e))))
                 ∙ fits.1;
@@ -119,8 +119,8 @@ module _ (t : ℕ) (pages : List Numbered) (at_most : length pages ≤ others) (
       pub alike : Alike s₀ m.settings
       pub serving : served m.settings ≡ true
 
-    with-cache : (m : Machine) (c : Cache) → Remembers m → Stays t pages p c → Remembers (with_cache m c)
-    with-cache m c k still = record { stays_in = still; alike = k.alike; serving = k.serving }
+    with_cache_lem : (m : Machine) (c : Cache) → Remembers m → Stays t pages p c → Remembers (with_cache m c)
+    with_cache_lem m c k still = record { stays_in = still; alike = k.alike; serving = k.serving }
 
     module _ (m : Machine) (memory : List ℕ) (k : Remembers m) where
       -- a call that spares the page
@@ -146,8 +146,8 @@ module _ (t : ℕ) (pages : List Numbered) (at_most : length pages ≤ others) (
       translation address access mode (fills a f on found is fresh-is left_is) =
           subst (Spared (Call.Translate address access mode)) (sym is)
           (λ no_drop not-asked counting.
-          with-cache m (fill_cache (place_of m.settings address a f) m.cache) k
-          (fill-stays (place_of m.settings address a f) m.cache (λ e. eqb-false (tag address) t not-asked (sym e))
+          with_cache_lem m (fill_cache (place_of m.settings address a f) m.cache) k
+          (fill_stays (place_of m.settings address a f) m.cache (λ e. eqb-false (tag address) t not-asked (sym e))
           (found_filled m.settings address a memory f found (due m.settings address access mode a on).is_canonical)
           (counts (record { tag = tag address; number = space_number m.settings }) (not (eqb f.reads 0))
           (ap not (ne_eqb f.reads 0 (λ e. omega (arith, found_reads m.settings address a memory f found)))) counting)
@@ -155,16 +155,16 @@ module _ (t : ℕ) (pages : List Numbered) (at_most : length pages ≤ others) (
       translation address access mode (Ways.drops r no-success fault is fresh-is left_is) =
           subst (Spared (Call.Translate address access mode)) (sym is)
           (λ no_drop not-asked counting.
-          with-cache m (drop_cache (its_drop address) m.cache) k
-          (drop-stays (its_drop address) m.cache (sym (ap (λ (b : Bool). takes (cond b (its_drop address) Nothing) w.key) fault) ∙ no_drop) k.stays_in))
+          with_cache_lem m (drop_cache (its_drop address) m.cache) k
+          (drop_stays (its_drop address) m.cache (sym (ap (λ (b : Bool). takes (cond b (its_drop address) Nothing) w.key) fault) ∙ no_drop) k.stays_in))
 
       after_store : (at value : ℕ) → Spared (Call.Store at value) (step m memory (Call.Store at value))
       unfolding step Calls.stored_result
       after_store at value = λ no_drop not-asked counting. k
 
-      after-root : (value : ℕ) → Spared (Call.LoadRoot value) (step m memory (Call.LoadRoot value))
+      after_root : (value : ℕ) → Spared (Call.LoadRoot value) (step m memory (Call.LoadRoot value))
       unfolding step Calls.root_loaded
-      after-root value = go (judged_from m.settings (with_root m.settings value)) refl
+      after_root value = go (judged_from m.settings (with_root m.settings value)) refl
         where
           go : (x : Service) → judged_from m.settings (with_root m.settings value) ≡ x
               → Spared (Call.LoadRoot value) (record {
@@ -174,7 +174,7 @@ module _ (t : ℕ) (pages : List Numbered) (at_most : length pages ≤ others) (
               })
           go Served ok = λ no_drop not-asked counting.
               record {
-                stays_in = drop-stays (root_drop m.settings value) m.cache no_drop k.stays_in;
+                stays_in = drop_stays (root_drop m.settings value) m.cache no_drop k.stays_in;
                 alike = record {
                   cr0_same = k.alike.cr0_same;
                   cr4_same = k.alike.cr4_same;
@@ -185,9 +185,9 @@ module _ (t : ℕ) (pages : List Numbered) (at_most : length pages ≤ others) (
               }
           go (NotServed why) ok = λ no_drop not-asked counting. k
 
-      after-settings : (cr0 cr4 efer width : ℕ) → Spared (Call.LoadSettings cr0 cr4 efer width) (step m memory (Call.LoadSettings cr0 cr4 efer width))
+      after_settings : (cr0 cr4 efer width : ℕ) → Spared (Call.LoadSettings cr0 cr4 efer width) (step m memory (Call.LoadSettings cr0 cr4 efer width))
       unfolding step Calls.settings_loaded
-      after-settings cr0 cr4 efer width = go (judged_from m.settings (with_settings m.settings cr0 cr4 efer width))
+      after_settings cr0 cr4 efer width = go (judged_from m.settings (with_settings m.settings cr0 cr4 efer width))
         where
           go : (x : Service) → Spared (Call.LoadSettings cr0 cr4 efer width) (record {
             answer = load_answer x;
@@ -197,24 +197,24 @@ module _ (t : ℕ) (pages : List Numbered) (at_most : length pages ≤ others) (
           go Served = λ no_drop not-asked counting. absurd (all_taken w no_drop)
           go (NotServed why) = λ no_drop not-asked counting. k
 
-      after-page : (address : VirtAddr) → Spared (Call.DropPage address) (step m memory (Call.DropPage address))
+      after_page : (address : VirtAddr) → Spared (Call.DropPage address) (step m memory (Call.DropPage address))
       unfolding step Calls.page_dropped
-      after-page address = go (canonical address) refl
+      after_page address = go (canonical address) refl
         where
           go : (b : Bool) → canonical address ≡ b
               → Spared (Call.DropPage address) (record { answer = done; machine = cond b (with_cache m (drop_cache (its_drop address) m.cache)) m; memory = memory })
           go true form no_drop not-asked counting =
-              with-cache m (drop_cache (its_drop address) m.cache) k
-              (drop-stays (its_drop address) m.cache (sym (ap (λ (b : Bool). takes (cond b (its_drop address) Nothing) w.key) form) ∙ no_drop) k.stays_in)
+              with_cache_lem m (drop_cache (its_drop address) m.cache) k
+              (drop_stays (its_drop address) m.cache (sym (ap (λ (b : Bool). takes (cond b (its_drop address) Nothing) w.key) form) ∙ no_drop) k.stays_in)
           go false form no_drop not-asked counting = k
 
-      after-all : Spared Call.DropAll (step m memory Call.DropAll)
+      after_all : Spared Call.DropAll (step m memory Call.DropAll)
       unfolding step Calls.all_dropped
-      after-all = λ no_drop not-asked counting. absurd (all_taken w no_drop)
+      after_all = λ no_drop not-asked counting. absurd (all_taken w no_drop)
 
-      after-invpcid : (kind number : ℕ) (address : VirtAddr) → Spared (Call.Invpcid kind number address) (step m memory (Call.Invpcid kind number address))
+      after_invpcid : (kind number : ℕ) (address : VirtAddr) → Spared (Call.Invpcid kind number address) (step m memory (Call.Invpcid kind number address))
       unfolding step Calls.invalidated
-      after-invpcid kind number address = go (leb kind 3) (number_served m.settings kind number) (form_served kind address)
+      after_invpcid kind number address = go (leb kind 3) (number_served m.settings kind number) (form_served kind address)
         where
           go : (known served form : Bool) → Spared (Call.Invpcid kind number address) (with_memory memory (cond known
               (cond served
@@ -222,7 +222,7 @@ module _ (t : ℕ) (pages : List Numbered) (at_most : length pages ≤ others) (
               (refused_with Answer.SpaceNumber m))
               (refused_with Answer.Unknown m)))
           go true true true no_drop not-asked counting =
-              with-cache m (drop_cache (kind_drop kind number address) m.cache) k (drop-stays (kind_drop kind number address) m.cache no_drop k.stays_in)
+              with_cache_lem m (drop_cache (kind_drop kind number address) m.cache) k (drop_stays (kind_drop kind number address) m.cache no_drop k.stays_in)
           go true true false no_drop not-asked counting = k
           go true false form no_drop not-asked counting = k
           go false served form no_drop not-asked counting = k
@@ -230,11 +230,11 @@ module _ (t : ℕ) (pages : List Numbered) (at_most : length pages ≤ others) (
       after_call : (c : Call) → Spared c (step m memory c)
       after_call (Call.Translate address access mode) = translation address access mode (goes m memory address access mode)
       after_call (Call.Store at value) = after_store at value
-      after_call (Call.LoadRoot value) = after-root value
-      after_call (Call.LoadSettings cr0 cr4 efer width) = after-settings cr0 cr4 efer width
-      after_call (Call.DropPage address) = after-page address
-      after_call Call.DropAll = after-all
-      after_call (Call.Invpcid kind number address) = after-invpcid kind number address
+      after_call (Call.LoadRoot value) = after_root value
+      after_call (Call.LoadSettings cr0 cr4 efer width) = after_settings cr0 cr4 efer width
+      after_call (Call.DropPage address) = after_page address
+      after_call Call.DropAll = after_all
+      after_call (Call.Invpcid kind number address) = after_invpcid kind number address
 
     -- a series that spares the page
     pub remembered : (now : Stand) (es : List Event) → Remembers now.machine → Between t w pages now es → Remembers (run now es).machine

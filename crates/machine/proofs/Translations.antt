@@ -92,31 +92,31 @@ module _ (m : Machine) (memory : List ℕ) (address : VirtAddr) (access mode : �
     drops : (r : Answer) → succeeded r ≡ false → faulted r ≡ true
         → result ≡ dropped_result r → freshly ≡ r → left ≡ memory → Goes
 
-  by-walk : (a : Way) (w : Walked) → asked s address access mode ≡ Asked.On a → find_cache (wanted s address a) m.cache ≡ Found.Nothing
+  by_walk : (a : Way) (w : Walked) → asked s address access mode ≡ Asked.On a → find_cache (wanted s address a) m.cache ≡ Found.Nothing
       → walk_answer s address a memory ≡ w → Goes
   unfolding step Calls.translated probed translated translated_memory after
-  by-walk a (Walked.Mapped f) on miss is =
+  by_walk a (Walked.Mapped f) on miss is =
       fills a f on is (rw (on, miss, is)) (rw (on, is)) (rw on)
-  by-walk a (Walked.Refused cause n) on miss is =
+  by_walk a (Walked.Refused cause n) on miss is =
       drops (answered s address a (Walked.Refused cause n)) refl refl (rw (on, miss, is)) (rw (on, is)) (rw (on, is))
-  by-walk a (Walked.Outside at l n) on miss is =
+  by_walk a (Walked.Outside at l n) on miss is =
       drops (answered s address a (Walked.Outside at l n)) refl refl (rw (on, miss, is)) (rw (on, is)) (rw (on, is))
 
-  by-found : (a : Way) (x : Found) → asked s address access mode ≡ Asked.On a → find_cache (wanted s address a) m.cache ≡ x → Goes
+  by_found : (a : Way) (x : Found) → asked s address access mode ≡ Asked.On a → find_cache (wanted s address a) m.cache ≡ x → Goes
   unfolding step Calls.translated probed translated translated_memory
-  by-found a (Found.At p) on is = hits a p is (rw (on, is)) (rw on) (rw on)
-  by-found a Found.Nothing on is = by-walk a (walk_answer s address a memory) on is refl
+  by_found a (Found.At p) on is = hits a p is (rw (on, is)) (rw on) (rw on)
+  by_found a Found.Nothing on is = by_walk a (walk_answer s address a memory) on is refl
 
-  by-asked : (x : Asked) → asked s address access mode ≡ x → Goes
+  by_asked : (x : Asked) → asked s address access mode ≡ x → Goes
   unfolding step Calls.translated probed translated translated_memory
-  by-asked Asked.Unknown is = quiet Answer.Unknown refl refl (rw is) (rw is) (rw is)
-  by-asked (Asked.NotServed why) is = quiet (Answer.NotServed why) (not_succeeded why) (not_faulted why) (rw is) (rw is) (rw is)
-  by-asked Asked.Form is = quiet Answer.Form refl refl (rw is) (rw is) (rw is)
-  by-asked (Asked.Off at) is = quiet (Answer.Done (unpaged at)) refl refl (rw is) (rw is) (rw is)
-  by-asked (Asked.On a) is = by-found a (find_cache (wanted s address a) m.cache) is refl
+  by_asked Asked.Unknown is = quiet Answer.Unknown refl refl (rw is) (rw is) (rw is)
+  by_asked (Asked.NotServed why) is = quiet (Answer.NotServed why) (not_succeeded why) (not_faulted why) (rw is) (rw is) (rw is)
+  by_asked Asked.Form is = quiet Answer.Form refl refl (rw is) (rw is) (rw is)
+  by_asked (Asked.Off at) is = quiet (Answer.Done (unpaged at)) refl refl (rw is) (rw is) (rw is)
+  by_asked (Asked.On a) is = by_found a (find_cache (wanted s address a) m.cache) is refl
 
   pub goes : Goes
-  goes = by-asked (asked s address access mode) refl
+  goes = by_asked (asked s address access mode) refl
 
   -- a translation leaves the settings
   pub settings_kept : result.machine.settings ≡ s

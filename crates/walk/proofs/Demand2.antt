@@ -40,14 +40,14 @@ module _ (s : Settings) (va : VirtAddr) (a : Way) (m : List ℕ) where
   ok : Sound s m 4 p
   ok = sound s m va 3 (root s).0
 
-  its-end : (k : ℕ) × (k ≤ 4) × SoundEnd s m k x
-  its-end = at_end s m 4 p ok
+  its_end : (k : ℕ) × (k ≤ 4) × SoundEnd s m k x
+  its_end = at_end s m 4 p ok
 
   stop : first (stops s) (entries p) ≡ stopping s m x
   stop = first_stop s m 4 p ok
 
   told : verdict.reply s va a m p ≡ verdict.verdict s va a m p x o
-  told = verdict.at_ending s va a m p its-end.0 x its-end.1 its-end.2
+  told = verdict.at_ending s va a m p its_end.0 x its_end.1 its_end.2
 
   -- the answer where the first entry that lacks a right is given
   told_with : (q : Option Entry) → o ≡ q → verdict.reply s va a m p ≡ verdict.verdict s va a m p x q
@@ -55,7 +55,7 @@ module _ (s : Settings) (va : VirtAddr) (a : Way) (m : List ℕ) where
 
   gives : Gives s va a m
   gives = record {
-    where_due = λ whole clear allowed. verdict.address s va a m p x its-end.0 its-end.1 its-end.2 stop (last_read p) (told_with none allowed) whole clear;
+    where_due = λ whole clear allowed. verdict.address s va a m p x its_end.0 its_end.1 its_end.2 stop (last_read p) (told_with none allowed) whole clear;
     only_there = λ t done. verdict.only s va a m p x o stop refl told t done;
   }
 
@@ -66,15 +66,15 @@ module _ (s : Settings) (va : VirtAddr) (a : Way) (m : List ℕ) where
   refuses : Refuses s va a m
   refuses = record {
     at_outside = λ l at is. (
-      (subst (SoundEnd s m its-end.0) is its-end.2).2,
+      (subst (SoundEnd s m its_end.0) is its_end.2).2,
       stop ∙ ap (stopping s m) is,
       told ∙ ap (λ (y : End). verdict.verdict s va a m p y o) is,
     );
     at_missing = λ e found clear.
-        let first_one = verdict.missing_first s va a m p x o its-end.0 its-end.2 stop (last_read p) told e found clear in
+        let first_one = verdict.missing_first s va a m p x o its_end.0 its_end.2 stop (last_read p) told e found clear in
         (first_one.0, first_one.1 ∙ fault e (missing_code s a));
     at_reserved = λ e found present.
-        let first_one = verdict.reserved_first s va a m p x o its-end.0 its-end.2 stop (last_read p) told e found present in
+        let first_one = verdict.reserved_first s va a m p x o its_end.0 its_end.2 stop (last_read p) told e found present in
         (first_one.0, first_one.1 ∙ fault e (reserved_code s a));
     at_rights = λ whole clear e found. verdict.lacking_first s va a m p x stop e (told_with (some e) found) whole clear ∙ fault e (rights_code s a);
   }

@@ -161,8 +161,8 @@ module _ (tell : ℕ → ℕ → Says) (m : List ℕ) (va : VirtAddr) (n l : ℕ
   small : index va n < 512
   small = mod-lt (va.0 / 2 ^ (3 + 9 * n)) (lit< tt)
 
-  where-it-is : a ≡ record { 0 = spot }
-  where-it-is = the-address ∙ ap (entry_address b) the-index ∙ entry_plain b (index va n) (omega (arith, small))
+  where_it_is : a ≡ record { 0 = spot }
+  where_it_is = the-address ∙ ap (entry_address b) the-index ∙ entry_plain b (index va n) (omega (arith, small))
 
   found : x ≡ loaded m spot
   found = the-load ∙ ap (λ (k : ℕ). loaded m (b.0 + 8 * k)) the-index
@@ -171,7 +171,7 @@ module _ (tell : ℕ → ℕ → Says) (m : List ℕ) (va : VirtAddr) (n l : ℕ
       → (Outside a n (4 - n) ≡ walked_below need held (4 - n) here) × (m ≡ after write here m (Outside a n (4 - n)))
   unfolding after ended_below end_of entries
   ret_outside h = (
-    ap (λ (z : PhysAddr). Outside z n (4 - n)) where-it-is
+    ap (λ (z : PhysAddr). Outside z n (4 - n)) where_it_is
         ∙ rw (path_outside tell m va n l b.0 is (sym found ∙ h), add-zero (4 - n)),
     refl,
   )
@@ -193,7 +193,7 @@ module _ (tell : ℕ → ℕ → Says) (m : List ℕ) (va : VirtAddr) (n l : ℕ
   ret_page v h p says r the-answer m' the-memory = (
     the-answer ∙ below_page need held n v spot p most ∙ ap (walked_below need held (4 - n)) (sym on),
     the-memory
-        ∙ ap (λ (z : PhysAddr). cond (allow need (bit_and held (own v))) (mark write m z.0) m) where-it-is
+        ∙ ap (λ (z : PhysAddr). cond (allow need (bit_and held (own v))) (mark write m z.0) m) where_it_is
         ∙ ap (λ (z : Path). cond (allow need (bit_and held (own v))) (marks write z m) m) (sym on)
         ∙ sym (after_cond write here m (allow need (bit_and held (own v)))
         (record { base = p; last = v; rights = bit_and held (own v); size = n; reads = 4 + 1 - n })
@@ -207,8 +207,8 @@ module _ (tell : ℕ → ℕ → Says) (m : List ℕ) (va : VirtAddr) (n l : ℕ
           ∙ ap (λ (z : Says). onward z (this v) (λ (table : ℕ). path tell m va l table)) says
 
   -- the path goes on from a table
-  onward-table : (v : ℕ) → x ≡ Loaded.Value v → (t : PhysAddr) → tell n v ≡ Says.Table t → here ≡ next (this v) (path tell m va l t.0)
-  onward-table v h t says = path_value tell m va n l b.0 is v (sym found ∙ h) ∙ ap (λ (z : Says). onward z (this v) (λ (table : ℕ). path tell m va l table)) says
+  onward_table : (v : ℕ) → x ≡ Loaded.Value v → (t : PhysAddr) → tell n v ≡ Says.Table t → here ≡ next (this v) (path tell m va l t.0)
+  onward_table v h t says = path_value tell m va n l b.0 is v (sym found ∙ h) ∙ ap (λ (z : Says). onward z (this v) (λ (table : ℕ). path tell m va l table)) says
 
   -- what the rest answered, on its way back
   module _ (v : ℕ) (h : x ≡ Loaded.Value v) (t : PhysAddr) (says : tell n v ≡ Says.Table t) (o : ℕ) (the_own : o ≡ own v)
@@ -216,7 +216,7 @@ module _ (tell : ℕ → ℕ → Says) (m : List ℕ) (va : VirtAddr) (n l : ℕ
       (m' : List ℕ) (the-memory : m' ≡ after write (path tell m va l t.0) m w) where
     back : walked_below need held (4 - n) here ≡ lift need o n w
     back =
-        ap (walked_below need held (4 - n)) (onward-table v h t says)
+        ap (walked_below need held (4 - n)) (onward_table v h t says)
         ∙ below_next need held n l (this v) (path tell m va l t.0) is most refl
         ∙ ap (λ (z : ℕ). lift need z n (walked_below need (bit_and held z) (4 - l) (path tell m va l t.0))) (sym the_own)
         ∙ ap (lift need o n) (sym the-answer)
@@ -227,8 +227,8 @@ module _ (tell : ℕ → ℕ → Says) (m : List ℕ) (va : VirtAddr) (n l : ℕ
     ret_mapped f is_mapped m'' the-mark = (
       sym (back ∙ ap (lift need o n) is_mapped),
       the-mark
-          ∙ ap₂ (mark false) (the-memory ∙ ap (after write (path tell m va l t.0) m) is_mapped) (ap (λ (z : PhysAddr). z.0) where-it-is)
-          ∙ ap (λ (z : Path). marks write z m) (sym (onward-table v h t says)),
+          ∙ ap₂ (mark false) (the-memory ∙ ap (after write (path tell m va l t.0) m) is_mapped) (ap (λ (z : PhysAddr). z.0) where_it_is)
+          ∙ ap (λ (z : Path). marks write z m) (sym (onward_table v h t says)),
     )
 
     pub ret_refused : (cause : Cause) (k : ℕ) → w ≡ Refused cause k → (cause' : Cause) → cause' ≡ higher need o n cause

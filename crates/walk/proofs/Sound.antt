@@ -44,25 +44,25 @@ module _ (s : Settings) (m : List ℕ) where
     this = record { level = suc l; address = at; value = v }
 
     -- one level, by its tests
-    one-level : (is-inside present broken whole : Bool) → inside m at ≡ is-inside → bit v 0 ≡ present
+    one_level : (is-inside present broken whole : Bool) → inside m at ≡ is-inside → bit v 0 ≡ present
         → say.reserved s.width (nxe s) (suc l) v ≡ broken → is_page (suc l) v ≡ whole
         → ((t : ℕ) → whole ≡ false → Sound l (rest t))
         → Sound (suc l) (cond is-inside (onward (says_by present broken whole (suc l) v) this rest) (ends (outside (suc l) at)))
-    one-level false present broken whole i p r w f = (omega arith, refl, i)
-    one-level true false broken whole i p r w f = (omega arith, refl, i, p)
-    one-level true true true whole i p r w f = (omega arith, refl, i, p, r)
-    one-level true true false true i p r w f = (omega arith, refl, i, rw (p, r) refl, refl, w)
-    one-level true true false false i p r w f = (l, refl, refl, i, rw (p, r) refl, f _ refl)
+    one_level false present broken whole i p r w f = (omega arith, refl, i)
+    one_level true false broken whole i p r w f = (omega arith, refl, i, p)
+    one_level true true true whole i p r w f = (omega arith, refl, i, p, r)
+    one_level true true false true i p r w f = (omega arith, refl, i, rw (p, r) refl, refl, w)
+    one_level true true false false i p r w f = (l, refl, refl, i, rw (p, r) refl, f _ refl)
 
   -- every path from a level of at least 1
   pub sound : (va : VirtAddr) (l base : ℕ) → Sound (suc l) (path (says s.width (nxe s)) m va (suc l) base)
   unfolding path
   sound va zero base =
-      one-level 0 (base + 8 * index va 1) (load 8 m (base + 8 * index va 1)) (λ (t : ℕ). path (says s.width (nxe s)) m va 0 t)
+      one_level 0 (base + 8 * index va 1) (load 8 m (base + 8 * index va 1)) (λ (t : ℕ). path (says s.width (nxe s)) m va 0 t)
       (inside m (base + 8 * index va 1)) (bit (load 8 m (base + 8 * index va 1)) 0)
       (say.reserved s.width (nxe s) 1 (load 8 m (base + 8 * index va 1))) true refl refl refl refl (λ t never. absurd (false≢true (sym never)))
   sound va (suc l) base =
-      one-level (suc l) (base + 8 * index va (suc (suc l))) (load 8 m (base + 8 * index va (suc (suc l)))) (λ (t : ℕ). path (says s.width (nxe s)) m va (suc l) t)
+      one_level (suc l) (base + 8 * index va (suc (suc l))) (load 8 m (base + 8 * index va (suc (suc l)))) (λ (t : ℕ). path (says s.width (nxe s)) m va (suc l) t)
       (inside m (base + 8 * index va (suc (suc l)))) (bit (load 8 m (base + 8 * index va (suc (suc l)))) 0)
       (say.reserved s.width (nxe s) (suc (suc l)) (load 8 m (base + 8 * index va (suc (suc l))))) (is_page (suc (suc l)) (load 8 m (base + 8 * index va (suc (suc l)))))
       refl refl refl refl (λ t table. sound va l t)

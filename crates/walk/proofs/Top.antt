@@ -55,8 +55,8 @@ tells_same width x = fun_ext (λ (l : ℕ). fun_ext (λ (e : ℕ). under_says wi
 module _ (s : Settings) (va : VirtAddr) (a : Way) (m : List ℕ) (x : Bool) (the-nxe : x ≡ nxe s)
     (mask : ℕ) (the-mask : mask ≡ forbidden s.width x) (need : ℕ) (the-need : need ≡ needed s a) (r : PhysAddr) (the-root : r ≡ root s)
     (b : Bool) (the-write : b ≡ writes a) (w : Walked) (m' : List ℕ) where
-  same-path : path (under mask) m va 4 r.0 ≡ path (says s.width (nxe s)) m va 4 (root s).0
-  same-path =
+  same_path : path (under mask) m va 4 r.0 ≡ path (says s.width (nxe s)) m va 4 (root s).0
+  same_path =
       ap₂ (λ (tell : ℕ → ℕ → Says) (base : ℕ). path tell m va 4 base)
       (ap under (the-mask ∙ ap (forbidden s.width) the-nxe) ∙ tells_same s.width (nxe s))
       (ap (λ (z : PhysAddr). z.0) the-root)
@@ -64,5 +64,5 @@ module _ (s : Settings) (va : VirtAddr) (a : Way) (m : List ℕ) (x : Bool) (the
   pub whole_walk : w ≡ walked_below need 7 (4 - 4) (path (under mask) m va 4 r.0) → m' ≡ after b (path (under mask) m va 4 r.0) m w
       → (w ≡ walk_answer s va a m) × (m' ≡ walk_memory s va a m)
   whole_walk the-answer the-memory =
-      let answers : w ≡ walk_answer s va a m = the-answer ∙ ap₂ (λ (n : ℕ) (p : Path). walked_below n 7 0 p) the-need same-path ∙ top (needed s a) (path (says s.width (nxe s)) m va 4 (root s).0) in
-      (answers, the-memory ∙ (λ i. after (the-write i) (same-path i) m (answers i)))
+      let answers : w ≡ walk_answer s va a m = the-answer ∙ ap₂ (λ (n : ℕ) (p : Path). walked_below n 7 0 p) the-need same_path ∙ top (needed s a) (path (says s.width (nxe s)) m va 4 (root s).0) in
+      (answers, the-memory ∙ (λ i. after (the-write i) (same_path i) m (answers i)))

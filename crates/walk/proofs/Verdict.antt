@@ -80,15 +80,15 @@ module _ (s : Settings) (va : VirtAddr) (a : Way) (m : List ℕ) (p : Path) wher
   verdict (page e base) (some f) = Answer.Fault (code_of true (writes a) a.user false (needs_fetch s a)) f.level (length (entries p))
 
   -- the answer at a page
-  at-page : (e : Entry) (base : ℕ) → base + offset va e.level < 2 ^ 64 → (o : Option Entry)
+  at_page_lem : (e : Entry) (base : ℕ) → base + offset va e.level < 2 ^ 64 → (o : Option Entry)
       → answered s va a (cond (is_none o)
       (Mapped (record { base = record { 0 = base }; last = e.value; rights = rights p; size = e.level; reads = reads p }))
       (Refused (Rights (level_of o)) (reads p)))
       ≡ verdict (page e base) o
-  at-page e base fits none =
+  at_page_lem e base fits none =
       ap (λ (x : PhysAddr). Answer.Done (record { address = x; size = e.level; memory_type = memory_type e.level e.value; reads = reads p }))
       (plus_plain (record { 0 = base }) (offset va e.level) fits)
-  at-page e base fits (some f) = refl
+  at_page_lem e base fits (some f) = refl
 
   pub at_ending : (k : ℕ) (x : End) → k ≤ 4 → SoundEnd s m k x → answered s va a (ended (needed s a) p x) ≡ verdict x (first (lacks s a) (entries p))
   unfolding ended
@@ -100,7 +100,7 @@ module _ (s : Settings) (va : VirtAddr) (a : Way) (m : List ℕ) (p : Path) wher
       (Mapped (record { base = record { 0 = base }; last = e.value; rights = rights p; size = e.level; reads = reads p }))
       (Refused (Rights l) (reads p))))
       (allowed s a (entries p)) (reported s a (entries p))
-      ∙ at-page e base
+      ∙ at_page_lem e base
       (subst (λ (n : ℕ). n + offset va e.level < 2 ^ 64) (sym h.4) (sum_small va e.level e.value (omega (arith, h.1))))
       (first (lacks s a) (entries p))
 

@@ -1,5 +1,5 @@
 -- What the buffer holds after a read is what was consumed before and by it.
-use Rattle.std.proofs.Common.{◌≡◌, ℕ, ◌+◌, ◌-◌, ◌≤◌, List, ◌++◌, rules, arith, length, take, drop, slice_range, sym, ap, ◌∙◌, subst, le_refl, drop_at, length-take-le}
+use Rattle.std.proofs.Common.{◌≡◌, ℕ, ◌+◌, ◌-◌, ◌≤◌, List, ◌++◌, rules, length, take, drop, sym, ap, ◌∙◌, subst, le_refl, drop_at, length-take-le}
 use Rattle.std.proofs.lemmas.Slice.{take-put_mid_below}
 use Rattle.std.specs.Io.KnownBytes.{Consumes}
 use Rattle.std.proofs.KnownBytes.{Consumes-trans}
@@ -7,26 +7,18 @@ use borrow.Rule.Slice.PartMut.{put_mid, post_of}
 use lib.Seq.{take-add, take-append-le}
 use Rattle.play.proofs.input.read_full.Goals as goal
 
--- bytes as far as a place, and then those to a later one, are the bytes to the later one
-take_split : (a n : ℕ) (old new : List ℕ) → take a new ≡ take a old → take a old ++ slice_range new a (a + n) ≡ take (a + n) new
-take_split a n old new front =
-    let same : (a + n) - a ≡ n = omega arith in
-    ap (λ l. l ++ slice_range new a (a + n)) (sym front) ∙ ap (λ m. take a new ++ take m (drop a new)) same ∙ sym (take-add a n new)
-
--- what stands in the part that was lent is what the reader put there
-slice_range-put_mid : (a k n : ℕ) (xs ys : List ℕ) → a ≤ length xs → n ≤ length ys → slice_range (put_mid a k xs ys) a (a + n) ≡ take n ys
-slice_range-put_mid a k n xs ys within fits =
-    let same : (a + n) - a ≡ n = omega arith in
-    let after = post_of a k xs in
-    ap (take ((a + n) - a)) (drop_at (take a xs) (ys ++ after) a (length-take-le a xs within)) ∙ ap (λ m. take m (ys ++ after)) same ∙ take-append-le n ys after fits
+-- after n bytes ys were put at a, the bytes before a + n are those before a and then these
+put_after : (a k n : ℕ) (xs ys : List ℕ) → a ≤ length xs → n ≤ length ys → take (a + n) (put_mid a k xs ys) ≡ take a xs ++ take n ys
+put_after a k n xs ys inside enough =
+    take-add a n (put_mid a k xs ys)
+    ∙ ap (λ l. l ++ take n (drop a (put_mid a k xs ys))) (take-put_mid_below a k xs ys a (le_refl a) inside)
+    ∙ ap (λ l. take a xs ++ take n l) (drop_at (take a xs) (ys ++ post_of a k xs) a (length-take-le a xs inside))
+    ∙ ap (λ l. take a xs ++ l) (take-append-le n ys (post_of a k xs) enough)
 
 pub loop-done-preserved : goal.loop-done-preserved
 loop-done-preserved g c =
-    let from = c.loop-done.done in
-    let buffer = c.loop-done.buffer in
-    let room = length buffer - from in
-    let got = c.in_ok-got.got in
-    let within = c.loop-done.invariant.1 in
-    let part = slice_range-put_mid from room got buffer c.read.new.buf within c.in_ok-got.ensures.bound.0 in
-    let joined = take_split from got buffer (put_mid from room buffer c.read.new.buf) (take-put_mid_below _ _ _ _ _ (le_refl _) within) in
-    (search rules, search rules, subst (Consumes _ _) (ap (λ l. take from buffer ++ l) (sym part) ∙ joined) (Consumes-trans _ _ _ _ _ c.loop-done.invariant.2 c.in_ok-got.ensures.bytes.0))
+    let h = c.loop-done.invariant in
+    let a = c.loop-done.done in
+    let bytes = c.loop-done.buffer in
+    let joined = put_after a (length bytes - a) c.in_ok-got.got bytes c.read.new.buf h.1 c.in_ok-got.ensures.bound.0 in
+    (search rules, search rules, subst (Consumes _ _) (sym joined) (Consumes-trans _ _ _ _ _ h.2 c.in_ok-got.ensures.bytes.0))
