@@ -5,19 +5,41 @@ ghost use Rattle.std.specs.Io.KnownBytes.{Consumes, IsAtEnd};
 use std::io;
 use std::io::Read;
 
-// Reads until the buffer is full or the input has ended; gives how many bytes stand at the buffer's start.
-pub(crate) fn read_full<R: Read>(input: &mut R, buffer: &mut [u8]) -> io::Result<usize>
-    ensures within { IfOk result (λ n. n ≤ length buffer.new) }
-    ensures bytes { IfOk result (λ n. Consumes (R.remaining input.old) (R.remaining input.new) (take n buffer.new)) }
-    ensures ended { IfOk result (λ n. n < length buffer.new → IsAtEnd (R.remaining input.new)) }
+// A block that was read: how many bytes stand at the buffer's start, and whether the reading failed after them.
+#[derive(Drop)]
+pub(crate) struct Block {
+    pub count: usize,
+    pub read: io::Result<()>,
+}
+
+// Reads until the buffer is full, the input has ended or a read fails.
+pub(crate) fn read_full<R: Read>(input: &mut R, buffer: &mut [u8]) -> Block
+    ensures within { result.count ≤ length buffer.new }
+    ensures bytes { IfOk result.read (λ _. Consumes (R.remaining input.old) (R.remaining input.new) (take result.count buffer.new)) }
+    ensures ended { IfOk result.read (λ _. result.count < length buffer.new → IsAtEnd (R.remaining input.new)) }
 {
-    let mut done = 0;
-    while done < buffer.len() {
-        let got = input.read(&mut buffer[done..])?;
-        if got == 0 {
-            return Ok(done);
+    let mut count = 0;
+    while count < buffer.len() {
+        match input.read(&mut buffer[count..]) {
+            Ok(got) => {
+                if got == 0 {
+                    return Block {
+                        count,
+                        read: Ok(()),
+                    };
+                }
+                count += got;
+            }
+            Err(error) => {
+                return Block {
+                    count,
+                    read: Err(error),
+                };
+            }
         }
-        done += got;
     }
-    Ok(done)
+    Block {
+        count,
+        read: Ok(()),
+    }
 }

@@ -74,6 +74,7 @@ fn play(
 }
 
 // Reads some cards, plays them and writes their lines; the input has ended where fewer came than were asked for.
+// Cards that came before a failed read are played.
 // "The deck is standard input."; "an empty deck prints nothing", since no card is played.
 fn read<R: Read, W: Write>(
     input: &mut R,
@@ -85,15 +86,17 @@ fn read<R: Read, W: Write>(
     requires { number + 128 < 2 ^ 64 }
 {
     let mut cards = [0u8; INPUT];
-    let got = read_full(input, &mut cards)?;
+    let block = read_full(input, &mut cards);
+    let count = block.count;
     let mut text = [0u8; OUTPUT];
-    let played = play(machine, memory, &cards[0..got], number, &mut text);
+    let played = play(machine, memory, &cards[0..count], number, &mut text);
     let used = played.used;
     output.write_all(&text[0..used])?;
+    block.read?;
     let next = played.machine;
     Ok(Progress {
         machine: next,
-        more: got == INPUT,
+        more: count == INPUT,
     })
 }
 

@@ -15,10 +15,10 @@ put_after a k n xs ys inside enough =
     ∙ ap (λ l. take a xs ++ take n l) (drop_at (take a xs) (ys ++ post_of a k xs) a (length-take-le a xs inside))
     ∙ ap (λ l. take a xs ++ l) (take-append-le n ys (post_of a k xs) enough)
 
-pub loop-done-preserved : goal.loop-done-preserved
-loop-done-preserved g c =
-    let h = c.loop-done.invariant in
-    let a = c.loop-done.done in
-    let bytes = c.loop-done.buffer in
-    let joined = put_after a (length bytes - a) c.in_ok-got.got bytes c.read.new.buf h.1 c.in_ok-got.ensures.bound.0 in
-    (search rules, search rules, subst (Consumes _ _) (sym joined) (Consumes-trans _ _ _ _ _ h.2 c.in_ok-got.ensures.bytes.0))
+pub loop-count-preserved : goal.loop-count-preserved
+loop-count-preserved g c =
+    let h = c.loop-count.invariant in
+    let a = c.loop-count.count in
+    let bytes = c.loop-count.buffer in
+    let joined = put_after a (length bytes - a) c.in-Ok.got bytes c.read.new.buf h.1 c.in-Ok.ensures.bound.0 in
+    (search rules, search rules, subst (Consumes _ _) (sym joined) (Consumes-trans _ _ _ _ _ h.2 c.in-Ok.ensures.bytes.0))

@@ -3,10 +3,10 @@ use Rattle.std.proofs.Common.{◌≡◌, ◌-◌, ◌≤◌, length, take}
 use Rattle.std.specs.Io.KnownBytes.{Consumes}
 use Rattle.play.proofs.input.read_full.Given as goal
 
-abbrev pub invariant-loop-done : goal.invariant-loop-done
-invariant-loop-done g l =
-    (length l.buffer ≡ length l.initial.buffer) × (l.done ≤ length l.buffer)
-    × Consumes (g.R.Read.remaining l.initial.input) (g.R.Read.remaining l.input) (take l.done l.buffer)
+abbrev pub invariant-loop-count : goal.invariant-loop-count
+invariant-loop-count g l =
+    (length l.buffer ≡ length l.initial.buffer) × (l.count ≤ length l.buffer)
+    × Consumes (g.R.Read.remaining l.initial.input) (g.R.Read.remaining l.input) (take l.count l.buffer)
 
-abbrev pub decreases-loop-done : goal.decreases-loop-done
-decreases-loop-done g l = length l.buffer - l.done
+abbrev pub decreases-loop-count : goal.decreases-loop-count
+decreases-loop-count g l = length l.buffer - l.count
