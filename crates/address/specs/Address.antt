@@ -1,5 +1,5 @@
 -- Virtual addresses, physical addresses and frames: canonical form, splitting, the named sums.
-use Rattle.std.specs.Prelude.{ℕ, ◌+◌, ◌-◌, ◌*◌, ◌/◌, ◌%◌, ◌^◌, Bool, ◌||◌, ◌==◌}
+use Rattle.std.specs.Prelude.{ℕ, ◌+◌, ◌-◌, ◌*◌, ◌/◌, ◌%◌, ◌^◌, Bool, ◌||◌, eqb}
 use Rattle.address.specs.declared.VirtAddr.{VirtAddr}
 use Rattle.address.specs.declared.PhysAddr.{PhysAddr}
 use Rattle.address.specs.declared.Frame.{Frame}
@@ -15,7 +15,7 @@ page_bits level = 3 + 9 * level
 -- "bits 63 to 47 must be equal": all bits from the highest index bit on
 abbrev pub canonical : VirtAddr → Bool
 canonical a =
-    (a.0 / 2 ^ (page_bits (levels + 1) - 1) == 0) || a.0 / 2 ^ (page_bits (levels + 1) - 1) == 2 ^ (65 - page_bits (levels + 1)) - 1
+    eqb (a.0 / 2 ^ (page_bits (levels + 1) - 1)) 0 || eqb (a.0 / 2 ^ (page_bits (levels + 1) - 1)) (2 ^ (65 - page_bits (levels + 1)) - 1)
 
 -- "Index bits are 47:39, 38:30, 29:21, 20:12."
 abbrev pub index : VirtAddr → ℕ → ℕ

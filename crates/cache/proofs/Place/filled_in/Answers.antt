@@ -4,4 +4,4 @@ use Rattle.cache.proofs.Place.filled_in.Goals as goal
 
 pub returns : goal.returns
 unfolding filled_in
-returns c = let b = c in rw (← b.set_of-own.ensures)
+returns c = rw (← c.set_of-own.ensures)

@@ -7,8 +7,7 @@ use Rattle.cache.proofs.Set.drop.Goals as goal
 pub returns : goal.returns
 unfolding drop_set
 returns c =
-    let d = c in
-    let a = d.args in
+    let a = c.args in
     set_kept a.set (left a.drop) a.self
-    d.filled_in.ensures d.left_by.ensures d.filled_in-2.ensures d.left_by-2.ensures
-    d.filled_in-3.ensures c.left_by-3.ensures c.filled_in-4.ensures c.left_by-4.ensures c.only.ensures
+    c.filled_in.ensures c.left_by.ensures c.filled_in-2.ensures c.left_by-2.ensures
+    c.filled_in-3.ensures c.left_by-3.ensures c.filled_in-4.ensures c.left_by-4.ensures c.only.ensures

@@ -18,4 +18,5 @@ returns-then-not-form_served c = rw (le-leb _ 3 c.if-kind-gt3.false, sym c.numbe
 
 pub returns : goal.returns
 unfolding invalidated
-returns c = let e = c in rw (le-leb _ 3 e.if-kind-gt3.false, sym e.number_served.ensures ∙ e.if-not-number_served.false, sym e.form_served.ensures ∙ e.if-not-form_served.false, c.done.ensures, c.drop-cache.ensures, c.kind_drop.ensures)
+returns c =
+    rw (le-leb _ 3 c.if-kind-gt3.false, sym c.number_served.ensures ∙ c.if-not-number_served.false, sym c.form_served.ensures ∙ c.if-not-form_served.false, c.done.ensures, c.drop-cache.ensures, c.kind_drop.ensures)
