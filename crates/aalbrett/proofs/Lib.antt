@@ -1,3 +1,2 @@
 pub mod Bytes
 pub mod Demand1
-pub mod Laws

@@ -1,6 +1,7 @@
 -- The host's calls on a machine that it lends: a start, one card's step in place, and INVPCID.
 use Rattle.std.specs.Prelude.{ℕ, ◌≡◌, cond, List}
 use Rattle.settings.specs.declared.Settings.{Settings}
+use Rattle.walk.specs.Answers.{Answer}
 use Rattle.walk.specs.Translate.{numbers}
 use Rattle.machine.specs.declared.Machine.{Machine}
 use Rattle.machine.specs.declared.Stepped.{Stepped}
@@ -43,7 +44,7 @@ module _ (m : Machine) (memory card buffer : List ℕ) where
   Steps r m' memory' buffer' = (r ≡ step_number) × (m' ≡ machine_after) × (memory' ≡ memory_after) × (buffer' ≡ buffer_after)
 
 -- a call that reads no memory: the machine before it, what it gives by the rules, and the answer buffer
-module _ (m : Machine) (given : Stepped) (buffer : List ℕ) where
+module _ (m : Machine) (given : Stepped Answer) (buffer : List ℕ) where
   -- the result: 7 for a short buffer, "tested first"
   abbrev pub call_number : ℕ
   call_number = cond (short buffer) 7 (numbers given.answer).answer

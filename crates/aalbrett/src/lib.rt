@@ -1,4 +1,5 @@
 // The host's entries: numbers, a lent machine, lent guest memory and a lent answer buffer.
+// Registers and refusals are plain numbers, one by one, since C calls these functions.
 #![tactic(auto)]
 
 ghost use Rattle.std.specs.Prelude.{◌≡◌};
@@ -11,10 +12,10 @@ use address::VirtAddr;
 use card::probe::step;
 use machine::Machine;
 use settings::Settings;
-use walk::translate::{numbers, translate};
+use walk::Numbers;
+use walk::translate::translate;
 
 mod buffer;
-mod value;
 
 // The number answered where the answer buffer is short.
 const SHORT: u64 = 7;
@@ -47,9 +48,7 @@ pub extern "C" fn aalbrett_walk(
         width,
     };
     let found = translate(memory, settings, VirtAddr(address), access, mode);
-    let told = numbers(found);
-    write(answer, told);
-    told.answer
+    write(answer, Numbers::from(found))
 }
 
 // Starts a machine that the host lends: gives 0, or 2, 8, 9, 10 or 11 where the settings are not served.
@@ -64,9 +63,15 @@ pub extern "C" fn aalbrett_start(
 ) -> u64
     ensures { after.Starts (spec.registers cr0 cr3 cr4 efer width) result machine.new }
 {
-    let begun = value::start(cr0, cr3, cr4, efer, width);
+    let begun = Machine::start(Settings {
+        cr0,
+        cr3,
+        cr4,
+        efer,
+        width,
+    });
     *machine = begun.machine;
-    begun.number
+    Numbers::from(begun.answer).answer
 }
 
 // One card's step on a machine that the host lends: gives the answer's number, and writes its five numbers to the buffer.
@@ -83,9 +88,7 @@ pub extern "C" fn aalbrett_step(
     if answer.len() < buffer::SIZE {
         return SHORT;
     }
-    let told = step(machine, memory, card);
-    write(answer, told);
-    told.answer
+    write(answer, step(machine, memory, card))
 }
 
 // INVPCID on a machine that the host lends: gives the answer's number, and writes its five numbers to the buffer.
@@ -100,7 +103,10 @@ pub extern "C" fn aalbrett_invpcid(
     ensures { after.Calls machine.old (invalidated machine.old kind number (record { 0 = address }))
         answer.old result machine.new answer.new }
 {
-    let called = value::invpcid(*machine, kind, number, address, answer);
-    *machine = called.machine;
-    called.number
+    if answer.len() < buffer::SIZE {
+        return SHORT;
+    }
+    let stepped = machine.invpcid(kind, number, VirtAddr(address));
+    *machine = stepped.machine;
+    write(answer, Numbers::from(stepped.answer))
 }

@@ -1,7 +1,7 @@
 // Virtual addresses, physical addresses and frame numbers, kept apart, with the named sums of them.
 #![tactic(auto)]
 
-ghost use Rattle.std.specs.Prelude.{◌≡◌};
+ghost use Rattle.std.specs.Prelude.{◌≡◌, ◌/◌, ◌%◌, ◌^◌};
 ghost use Rattle.address.specs.Address as spec;
 
 use std::num::wrapping_add_u64;
@@ -46,60 +46,35 @@ impl VirtAddr {
         (top == 0) | (top == 0x1ffff)
     }
 
+    // The pages of a level before this address, and what is left after them; each level has a line, for a divisor known only at run time is a real division.
+    fn split(self, level: u64) -> (u64, u64)
+        ensures pages { result.0 ≡ self.0 / 2 ^ spec.page_bits level }
+        ensures offset { result.1 ≡ self.0 % 2 ^ spec.page_bits level }
+    {
+        match level {
+            0 => (self.0 / PAGE_OF_LEVEL_0, self.0 % PAGE_OF_LEVEL_0),
+            1 => (self.0 / PAGE_OF_LEVEL_1, self.0 % PAGE_OF_LEVEL_1),
+            2 => (self.0 / PAGE_OF_LEVEL_2, self.0 % PAGE_OF_LEVEL_2),
+            3 => (self.0 / PAGE_OF_LEVEL_3, self.0 % PAGE_OF_LEVEL_3),
+            4 => (self.0 / PAGE_OF_LEVEL_4, self.0 % PAGE_OF_LEVEL_4),
+            5 => (self.0 / PAGE_OF_LEVEL_5, self.0 % PAGE_OF_LEVEL_5),
+            6 => (self.0 / PAGE_OF_LEVEL_6, self.0 % PAGE_OF_LEVEL_6),
+            _ => (0, self.0),
+        }
+    }
+
     // The index into the table of a level: the pages of that level before this address, counted within one table.
     pub fn index(self, level: u64) -> u64
         ensures { result ≡ spec.index self level }
     {
-        if level == 1 {
-            return self.0 / PAGE_OF_LEVEL_1 % ENTRIES_IN_A_TABLE;
-        }
-        if level == 2 {
-            return self.0 / PAGE_OF_LEVEL_2 % ENTRIES_IN_A_TABLE;
-        }
-        if level == 3 {
-            return self.0 / PAGE_OF_LEVEL_3 % ENTRIES_IN_A_TABLE;
-        }
-        if level == 4 {
-            return self.0 / PAGE_OF_LEVEL_4 % ENTRIES_IN_A_TABLE;
-        }
-        if level == 5 {
-            return self.0 / PAGE_OF_LEVEL_5 % ENTRIES_IN_A_TABLE;
-        }
-        if level == 6 {
-            return self.0 / PAGE_OF_LEVEL_6 % ENTRIES_IN_A_TABLE;
-        }
-        if level == 0 {
-            return self.0 / PAGE_OF_LEVEL_0 % ENTRIES_IN_A_TABLE;
-        }
-        0
+        self.split(level).0 % ENTRIES_IN_A_TABLE
     }
 
     // The offset in a page of a size: what is left of this address after whole pages.
     pub fn offset(self, size: u64) -> u64
         ensures { result ≡ spec.offset self size }
     {
-        if size == 1 {
-            return self.0 % PAGE_OF_LEVEL_1;
-        }
-        if size == 2 {
-            return self.0 % PAGE_OF_LEVEL_2;
-        }
-        if size == 3 {
-            return self.0 % PAGE_OF_LEVEL_3;
-        }
-        if size == 4 {
-            return self.0 % PAGE_OF_LEVEL_4;
-        }
-        if size == 5 {
-            return self.0 % PAGE_OF_LEVEL_5;
-        }
-        if size == 6 {
-            return self.0 % PAGE_OF_LEVEL_6;
-        }
-        if size == 0 {
-            return self.0 % PAGE_OF_LEVEL_0;
-        }
-        self.0
+        self.split(size).1
     }
 
     // The tag of the page: the 4 KiB pages before this address.

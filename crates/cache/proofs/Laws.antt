@@ -15,7 +15,7 @@ use Rattle.cache.specs.declared.Place.{Place}
 use Rattle.cache.specs.declared.Set.{Set}
 use Rattle.cache.specs.declared.Cache.{Cache}
 use Rattle.cache.specs.declared.Wanted.{Wanted}
-use Rattle.cache.specs.declared.Found.{Found}
+use Rattle.std.specs.Prelude.{Option}
 use Rattle.cache.specs.Places.{is_marked, has_g, zero_place, set_index, filled_in, Key, key_of, mine, page_bytes, covers, left, other_tag, spares, serves}
 use Rattle.cache.specs.Sets.{keep, four, set_of, empty_set, filled, first_serving, find_in, fill_set, drop_set}
 use Rattle.cache.specs.Whole.{set_at, held, rewrite_set, rewrite_all, empty_cache, fill_cache, drop_cache}
@@ -83,25 +83,6 @@ tag_same t p e = ap not (eq-eqb p.tag t e)
 pub tag_other : (t : ℕ) (p : Place) → (p.tag ≡ t → ⊥) → other_tag t p ≡ true
 unfolding other_tag
 tag_other t p e = ap not (ne_eqb p.tag t e)
-
--- the quotients of pages by their 4 KiB pieces
-pub covers_2_mib : (k : Key) (t : ℕ) → k.size ≡ 2 → eqb (k.tag / 512) (t / 512) ≡ covers k t
-covers_2_mib k t size = rw (size, by_pieces k.tag, by_pieces t)
-  where
-    by_pieces : (n : ℕ) → n * 4096 / 2 ^ 21 ≡ n / 512
-    by_pieces n = omega arith
-
-pub covers_1_gib : (k : Key) (t : ℕ) → k.size ≡ 3 → eqb (k.tag / 262144) (t / 262144) ≡ covers k t
-covers_1_gib k t size = rw (size, by_pieces k.tag, by_pieces t)
-  where
-    by_pieces : (n : ℕ) → n * 4096 / 2 ^ 30 ≡ n / 262144
-    by_pieces n = omega arith
-
-pub covers_4_kib : (k : Key) (t : ℕ) → (k.size ≡ 2 → ⊥) → (k.size ≡ 3 → ⊥) → eqb k.tag t ≡ covers k t
-covers_4_kib k t not-2 not-3 = rw (ne_eqb k.size 2 not-2, ne_eqb k.size 3 not-3, by_pieces k.tag, by_pieces t)
-  where
-    by_pieces : (n : ℕ) → n * 4096 / 2 ^ 12 ≡ n
-    by_pieces n = omega arith
 
 -- a page drop takes the place of the page itself
 pub own_covered : (k : Key) → covers k k.tag ≡ true
@@ -279,7 +260,7 @@ held_drop d c j = go (dec_lt j 16)
     go (no large) = held_beyond j (drop_cache d c) (omega arith) ∙ ap (keep (left d)) (sym (held_beyond j c (omega arith)))
 
 -- a lookup in the set of its tag
-abbrev pub find_cache : Wanted → Cache → Found
+abbrev pub find_cache : Wanted → Cache → Option Place
 find_cache w c = find_in (set_index w.tag) w (set_at (set_index w.tag) c)
 
 -- it goes by what that set holds

@@ -3,12 +3,12 @@ use Prim.Native.Nat.{ℕ, zero, suc, ◌≤◌, suc-le-suc}
 use native.Mathlib.Nat.{le_refl}
 use native.Mathlib.Omega.{arith}
 use mathlib.Core.Path.{◌≡◌, refl, ap, ◌∙◌}
-use mathlib.Core.Bool.{Bool, true, false, not, ◌&&◌, ◌||◌, cond}
+use mathlib.Core.Bool.{Bool, true, false, not, ◌&&◌, cond}
 use mathlib.Core.List.{List, [], ◌∷◌, ◌++◌, Memᴰ}
 use lib.ListN.{length, take}
 use Rattle.cache.specs.declared.Place.{Place}
 use Rattle.cache.specs.declared.Wanted.{Wanted}
-use Rattle.cache.specs.declared.Found.TheVariants.{At}
+use Rattle.std.specs.Prelude.{Some}
 use Rattle.cache.specs.Places.{zero_place, serves}
 use Rattle.cache.specs.Sets.{pick, keep, four, first_serving}
 
@@ -25,15 +25,6 @@ Each test (p ∷ ps) = (test p ≡ true) × Each test ps
 pub and_true : (a b : Bool) → (a && b) ≡ true → (a ≡ true) × (b ≡ true)
 and_true true b h = (refl, h)
 and_true false b h = (h, cc)
-
--- one thing or another that is known
-pub or_true : (b : Bool) → (b || true) ≡ true
-or_true true = refl
-or_true false = refl
-
-pub or_false : (b : Bool) → (b || false) ≡ b
-or_false true = refl
-or_false false = refl
 
 -- two filters in a row are one
 pub two_filters : (f g : Place → Bool) (ps : List Place) → keep g (keep f ps) ≡ keep (both f g) ps
@@ -117,11 +108,11 @@ keep_four test empty ps h =
     ap (keep test) (four_pad ps) ∙ keep_pad test empty 4 ps ∙ keep_each test (take 4 ps) (each_take test 4 ps h)
 
 -- the first that serves is one of the list, and serves
-pub first_serves : (w : Wanted) (ps : List Place) (p : Place) → first_serving w ps ≡ At p → Memᴰ p ps × (serves w p ≡ true)
-first_serves w [] p h = let z : ◌≡◌ {A = ℕ} 0 1 = cc in absurd (omega arith)
+pub first_serves : (w : Wanted) (ps : List Place) (p : Place) → first_serving w ps ≡ Some p → Memᴰ p ps × (serves w p ≡ true)
+first_serves w [] p h = cc
 first_serves w (q ∷ ps) p h = go (serves w q) refl h (first_serves w ps p)
   where
-    go : (b : Bool) → serves w q ≡ b → cond b (At q) (first_serving w ps) ≡ At p → (first_serving w ps ≡ At p → Memᴰ p ps × (serves w p ≡ true))
+    go : (b : Bool) → serves w q ≡ b → cond b (Some q) (first_serving w ps) ≡ Some p → (first_serving w ps ≡ Some p → Memᴰ p ps × (serves w p ≡ true))
         → Memᴰ p (q ∷ ps) × (serves w p ≡ true)
     go true e found below = let same : p ≡ q = cc in (Memᴰ.head same, ap (serves w) same ∙ e)
     go false e found below = (Memᴰ.tail (below found).0, (below found).1)
@@ -131,6 +122,6 @@ pub passed_by : (w : Wanted) (ps qs : List Place) → Each (λ p. not (serves w 
 passed_by w [] qs h = refl
 passed_by w (p ∷ ps) qs h = go (serves w p) h.0 (passed_by w ps qs h.1)
   where
-    go : (b : Bool) → not b ≡ true → first_serving w (ps ++ qs) ≡ first_serving w qs → cond b (At p) (first_serving w (ps ++ qs)) ≡ first_serving w qs
+    go : (b : Bool) → not b ≡ true → first_serving w (ps ++ qs) ≡ first_serving w qs → cond b (Some p) (first_serving w (ps ++ qs)) ≡ first_serving w qs
     go true e rest = let z : ◌≡◌ {A = ℕ} 0 1 = cc in absurd (omega arith)
     go false e rest = rest

@@ -1,11 +1,9 @@
 -- One set: the places that it holds, lookup, fill and drops.
-use Rattle.std.specs.Prelude.{ℕ, Bool, cond, List, [], ◌∷◌, get_or}
+use Rattle.std.specs.Prelude.{ℕ, Bool, cond, List, [], ◌∷◌, get_or, Option, None, Some}
 use Rattle.cache.specs.declared.Drop.{Drop}
 use Rattle.cache.specs.declared.Place.{Place}
 use Rattle.cache.specs.declared.Set.{Set}
 use Rattle.cache.specs.declared.Wanted.{Wanted}
-use Rattle.cache.specs.declared.Found.{Found}
-use Rattle.cache.specs.declared.Found.TheVariants.{At, Nothing}
 use Rattle.cache.specs.Places.{zero_place, filled_in, left, spares, serves}
 
 -- a place in front of others, where it is kept
@@ -29,23 +27,17 @@ set_of ps = record { places = four ps }
 abbrev pub empty_set : Set
 empty_set = set_of []
 
--- the places of a set at whose flag there is true
-abbrev pub only : Bool → Bool → Bool → Bool → Set → List Place
-only first second third fourth s =
-    pick first (get_or s.places 0 zero_place)
-    (pick second (get_or s.places 1 zero_place) (pick third (get_or s.places 2 zero_place) (pick fourth (get_or s.places 3 zero_place) [])))
-
 -- what set i holds: its filled places in order; "every other place reads as empty"
 unfoldable pub filled : ℕ → Set → List Place
 filled i s = keep (filled_in i) (four s.places)
 
 -- the first place of a list that serves
-abbrev pub first_serving : Wanted → List Place → Found
-first_serving w [] = Nothing
-first_serving w (p ∷ ps) = cond (serves w p) (At p) (first_serving w ps)
+abbrev pub first_serving : Wanted → List Place → Option Place
+first_serving w [] = None
+first_serving w (p ∷ ps) = cond (serves w p) (Some p) (first_serving w ps)
 
 -- "A hit is the first filled place" that serves
-unfoldable pub find_in : ℕ → Wanted → Set → Found
+unfoldable pub find_in : ℕ → Wanted → Set → Option Place
 find_in i w s = first_serving w (filled i s)
 
 -- "removes all places with that tag from the set, closes gaps in order, and puts the new one first";

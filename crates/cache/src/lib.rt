@@ -7,7 +7,7 @@ pub mod whole;
 
 use address::Frame;
 
-// A remembered translation of one 4 KiB piece; its flags are bits, so that any bytes are a place.
+// A remembered translation of one 4 KiB piece, as C lends it: size, flags and memory type are numbers, so that any bytes are a place.
 #[repr(C)]
 #[derive(Clone, Copy)]
 pub struct Place {
@@ -49,12 +49,5 @@ pub enum Drop {
     Number(u16),
     Local,
     All,
-    Nothing,
-}
-
-// What a lookup finds.
-#[derive(Clone, Copy)]
-pub enum Found {
-    At(Place),
     Nothing,
 }

@@ -39,12 +39,13 @@ impl Place {
     }
 
     // Whether the place counts as filled in a set.
+    #[tactic(auto, unfolding(crate::specs::Places::filled_in))]
     pub fn filled_in(self, set: u64) -> bool
         ensures { result ≡ spec.filled_in set self }
     {
         let own = Cache::set_of(self.tag);
         let tag = (self.tag < 0x10_0000_0000_0000) & (own == set);
-        let size = (1 <= self.size) & (self.size <= 3);
+        let size = matches!(self.size, 1..=3);
         let page = size & ((self.memory_type < 8) & (self.number <= 4095));
         (self.flags / Place::MARKED % 2 == 1) & (tag & ((self.frame.0 < 0x100_0000_0000) & page))
     }
@@ -53,13 +54,11 @@ impl Place {
     fn covers(self, tag: u64) -> bool
         ensures { result ≡ spec.covers (spec.key_of self) tag }
     {
-        if self.size == 2 {
-            return self.tag / PIECES_OF_2_MIB == tag / PIECES_OF_2_MIB;
+        match self.size {
+            2 => self.tag / PIECES_OF_2_MIB == tag / PIECES_OF_2_MIB,
+            3 => self.tag / PIECES_OF_1_GIB == tag / PIECES_OF_1_GIB,
+            _ => self.tag == tag,
         }
-        if self.size == 3 {
-            return self.tag / PIECES_OF_1_GIB == tag / PIECES_OF_1_GIB;
-        }
-        self.tag == tag
     }
 
     // Whether the place is G.
@@ -73,27 +72,24 @@ impl Place {
     fn mine(self, number: u16) -> bool
         ensures { result ≡ spec.mine number (spec.key_of self) }
     {
-        if self.number == number {
-            return true;
-        }
-        self.global()
+        self.number == number || self.global()
     }
 
     // Whether the place is of a space number, and not G.
     fn mine_alone(self, number: u16) -> bool
         ensures { result ≡ spec.mine_alone number (spec.key_of self) }
     {
-        let global = self.global();
-        !global & (self.number == number)
+        self.number == number && !self.global()
     }
 
     // Whether a drop takes the place.
+    #[tactic(auto, unfolding(crate::specs::Places::takes))]
     fn taken_by(self, drop: Drop) -> bool
         ensures { result ≡ spec.takes drop (spec.key_of self) }
     {
         match drop {
-            Drop::Page(tag, number) => self.covers(tag) & self.mine(number),
-            Drop::Piece(tag, number) => self.covers(tag) & self.mine_alone(number),
+            Drop::Page(tag, number) => self.covers(tag) && self.mine(number),
+            Drop::Piece(tag, number) => self.covers(tag) && self.mine_alone(number),
             Drop::Number(number) => self.mine_alone(number),
             Drop::Local => !self.global(),
             Drop::All => true,
@@ -109,19 +105,20 @@ impl Place {
     }
 
     // Whether a fill of a new place leaves this one.
+    #[tactic(auto, unfolding(crate::specs::Places::spares, crate::specs::Places::other_tag))]
     pub fn spared_by(self, new: Place) -> bool
         ensures { result ≡ spec.spares new self }
     {
-        let global = new.global();
-        let mine = self.mine(new.number);
-        !(self.tag == new.tag) | (!global & !mine)
+        self.tag != new.tag || !new.global() && !self.mine(new.number)
     }
 
     // Whether the place has all that a translation wants.
+    #[tactic(auto, unfolding(crate::specs::Places::serves))]
     pub fn serves(self, wanted: Wanted) -> bool
         ensures { result ≡ spec.serves wanted self }
     {
-        let page = (self.tag == wanted.tag) & (wanted.flags & self.flags == wanted.flags);
-        page & self.mine(wanted.number)
+        self.tag == wanted.tag
+            && wanted.flags & self.flags == wanted.flags
+            && self.mine(wanted.number)
     }
 }

@@ -4,14 +4,16 @@ ghost use Rattle.cache.specs.Places as place;
 ghost use Rattle.cache.specs.Whole as spec;
 
 use crate::{Cache, Drop, Set};
+use std::array;
 
 impl Cache {
     // The cache of all zeros: "the empty cache belongs to the cache".
     pub fn empty() -> Cache
         ensures { result ≡ spec.empty_cache }
     {
-        let set = Set::empty();
-        Cache { sets: [set; 16] }
+        Cache {
+            sets: [Set::empty(); 16],
+        }
     }
 
     // The number of a tag's set.
@@ -25,12 +27,8 @@ impl Cache {
     pub fn drop(self, drop: Drop) -> Cache
         ensures { result ≡ spec.drop_cache drop self }
     {
-        let mut cache = self;
-        for i in 0..16 {
-            let own = cache.sets[i];
-            let left = own.drop(i as u64, drop);
-            cache.sets[i] = left;
+        Cache {
+            sets: array::from_fn(|i| self.sets[i].drop(i as u64, drop)),
         }
-        cache
     }
 }

@@ -1,4 +1,2 @@
-pub mod Cards
 pub mod Demand1
-pub mod Found
 pub mod Probing

@@ -2,4 +2,3 @@ pub mod Marks
 pub mod Masks
 pub mod Meeting
 pub mod Parts
-pub mod Telling

@@ -9,13 +9,7 @@ use mathlib.Core.Bool.{Bool, true, false, not, ◌&&◌, ◌||◌, cond, beq, fa
 use borrow.Author.Tests.{eqb-true}
 use lib.Bits.{bit_and, and_step, and_zero_l}
 use lib.Dec.{eqb, lit<}
-use mir.Val.{bool_byte}
 use Rattle.entry.specs.Rights.{number, own, allow}
-
--- a bool as a number
-pub bool_number : (b : Bool) → bool_byte b ≡ cond b 1 0
-bool_number true = refl
-bool_number false = refl
 
 and_left : (a b : Bool) → (a && b) ≡ true → a ≡ true
 and_left true b h = refl

@@ -1,20 +1,16 @@
 -- A load from the part of memory that starts at a base is a load from memory.
-use Prim.Native.Nat.{ℕ, zero, suc, ◌+◌, ◌-◌, ◌≤◌}
-use native.Mathlib.Nat.{add-suc, le_refl}
+use Prim.Native.Nat.{ℕ, ◌+◌, ◌-◌, ◌≤◌}
+use native.Mathlib.Nat.{le_refl}
 use native.Mathlib.Omega.{arith}
-use mathlib.Core.Path.{◌≡◌, refl, sym, ◌∙◌}
+use mathlib.Core.Path.{◌≡◌, sym, ◌∙◌}
 use mathlib.Core.List.{List}
 use lib.Dec.{leb}
 use lib.ListN.{length, take, drop, length-drop}
-use lib.Seq.{get_or-drop, take_all}
+use lib.Seq.{take_all}
 use native.Mathlib.Decide.{dec_le}
 use borrow.Author.Tests.{le-leb, lt-leb}
-use Rattle.word.specs.Bytes.{load, loaded}
-
-pub load_drop : (width b : ℕ) (l : List ℕ) (i : ℕ) → load width (drop b l) i ≡ load width l (b + i)
-unfolding load
-load_drop zero b l i = refl
-load_drop (suc width) b l i = rw (get_or-drop b l i 0, load_drop width b l (suc i), add-suc b i)
+use Rattle.word.specs.Bytes.{loaded}
+use Rattle.word.proofs.Laws.{load_drop}
 
 -- the part from b on
 pub part : (b : ℕ) (l : List ℕ) → take (length l - b) (drop b l) ≡ drop b l

@@ -15,12 +15,8 @@ pub fn mark(memory: &mut [u8], entry: PhysAddr, dirty: bool)
     ensures { memory.new ≡ spec.mark dirty memory.old entry.0 }
 {
     let at = entry.0 as usize;
-    if memory.len() <= at {
-        return;
+    if at < memory.len() {
+        let accessed = memory[at] | ACCESSED;
+        memory[at] = if dirty { accessed | DIRTY } else { accessed };
     }
-    if dirty {
-        memory[at] = memory[at] | ACCESSED | DIRTY;
-        return;
-    }
-    memory[at] = memory[at] | ACCESSED;
 }

@@ -1,4 +1,4 @@
-// What an entry says at its level.
+// What an entry says at its level; it stays a number beside the level, for its rights, its marks, G and D are asked without one.
 ghost use Rattle.std.specs.Prelude.{◌≡◌, not, ◌-◌, ◌^◌, ◌≤◌, eqb};
 ghost use Rattle.word.specs.Bits.{field};
 ghost use Rattle.address.specs.Address.{page_bits};
@@ -15,7 +15,8 @@ const LARGEST: u64 = 3;
 
 // Bits 51 to M, as a mask.
 fn above_width(width: u64) -> u64
-    ensures { (result ≡ 2 ^ 52 - 2 ^ width) × (result ≤ 2 ^ 52) }
+    ensures mask { result ≡ 2 ^ 52 - 2 ^ width }
+    ensures within { result ≤ 2 ^ 52 }
 {
     if 52 <= width {
         return 0;
@@ -51,7 +52,8 @@ fn page_base(entry: u64, level: u64) -> PhysAddr
 
 // Whether a large page has a bit set between bit 12 and its base.
 fn inside_page(entry: u64, level: u64) -> bool
-    requires { (2 ≤ level) × (level ≤ 3) }
+    requires large { 2 ≤ level }
+    requires page { level ≤ 3 }
     ensures { result ≡ not (eqb (field entry 13 (page_bits level - 13)) 0) }
 {
     entry & ((1 << (3 + 9 * level)) - 8192) != 0
@@ -83,6 +85,7 @@ pub fn under(entry: u64, level: u64, forbidden: u64) -> Says
 }
 
 // What an entry says at a level, given the width and NXE.
+#[tactic(auto, using(crate::proofs::Masks::under_says))]
 pub fn says(entry: u64, level: u64, width: u64, nxe: bool) -> Says
     ensures { result ≡ spec.says width nxe level entry }
 {

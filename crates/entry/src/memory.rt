@@ -1,5 +1,5 @@
 // The memory type index of an entry.
-ghost use Rattle.std.specs.Prelude.{cond, ◌≡◌, ◌≤◌, ◌<◌};
+ghost use Rattle.std.specs.Prelude.{◌≡◌, ◌<◌};
 ghost use Rattle.entry.specs.Memory as spec;
 
 use crate::bits::{PAT, PAT_OF_LARGE, PCD, PS, PWT};
@@ -17,21 +17,13 @@ fn pat(entry: u64, level: u64) -> bool
     large & pat
 }
 
-// A bit's weight, where the bit is set.
-fn weight(set: bool, value: u8) -> u8
-    ensures { (result ≡ cond set value 0) × (result ≤ value) }
-{
-    if set {
-        return value;
-    }
-    0
-}
-
 // The memory type index of an entry at a level: 4 times PAT plus 2 times PCD plus PWT.
 pub fn memory_type(entry: u64, level: u64) -> u8
-    ensures { (result ≡ spec.memory_type level entry) × (result < 8) }
+    ensures is { result ≡ spec.memory_type level entry }
+    ensures below { result < 8 }
 {
-    let pat = weight(pat(entry, level), 4);
-    let pcd = weight(bit(entry, PCD), 2);
-    pat + (pcd + weight(bit(entry, PWT), 1))
+    let pat = u8::from(pat(entry, level));
+    let pcd = u8::from(bit(entry, PCD));
+    let pwt = u8::from(bit(entry, PWT));
+    4 * pat + (2 * pcd + pwt)
 }

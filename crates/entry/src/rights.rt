@@ -1,5 +1,5 @@
-// The rights that an entry gives, as a number: 1 write, 2 user, 4 fetch.
-ghost use Rattle.std.specs.Prelude.{cond, ◌≡◌, ◌<◌};
+// The rights that an entry gives, as a number: 1 write, 2 user, 4 fetch. One mask judges all three: docs/DECISIONS.md.
+ghost use Rattle.std.specs.Prelude.{◌≡◌};
 ghost use Rattle.entry.specs.Rights as spec;
 
 use crate::bits::{RW, XD};
@@ -11,18 +11,11 @@ pub fn own(entry: u64) -> u64
     (entry >> RW) % 4 + 4 * (1 - (entry >> XD))
 }
 
-// A bool as a number.
-fn one(right: bool) -> u64
-    ensures { (result ≡ cond right 1 0) × (result < 2) }
-{
-    right as u64
-}
-
 // Rights as a number.
 pub fn number(write: bool, user: bool, fetch: bool) -> u64
     ensures { result ≡ spec.number write user fetch }
 {
-    one(write) + (2 * one(user) + 4 * one(fetch))
+    u64::from(write) + (2 * u64::from(user) + 4 * u64::from(fetch))
 }
 
 // Whether the rights held include the rights needed.

@@ -6,12 +6,11 @@ use mathlib.Core.List.{List}
 use lib.Dec.{leb}
 use Rattle.word.specs.Bytes.{inside, store}
 use Rattle.settings.specs.declared.Unserved.TheVariants.{Width, Root, Paging, Extension, Spaces}
-use Rattle.settings.specs.declared.Service.{Service}
-use Rattle.settings.specs.declared.Service.TheVariants.{Served, NotServed}
-use Rattle.settings.specs.Settings.{space_number, judged_from}
+use Rattle.settings.specs.Settings.{Service, space_number, judged_from}
 use Rattle.address.specs.declared.VirtAddr.{VirtAddr}
 use Rattle.address.specs.Address.{tag}
-use Rattle.walk.specs.declared.Answer.{Answer}
+use Rattle.walk.specs.declared.Refusal.{Refusal}
+use Rattle.walk.specs.Answers.{Answer}
 use Rattle.walk.specs.Translate.{numbers}
 use Rattle.cache.specs.declared.Drop.TheVariants.{Page}
 use Rattle.cache.specs.Whole.{held, empty_cache, drop_cache}
@@ -23,6 +22,7 @@ use Rattle.machine.specs.Calls.{Result, step, stored_result, root_loaded, settin
 use Rattle.machine.specs.Demand1.{Demand1, among, refusals, refused, faulted, drops_asked, leaves}
 use Rattle.machine.proofs.Translations.{Goes, goes, quiet, hits, fills}
 use Rattle.machine.proofs.Translations as Ways
+use Rattle.std.specs.Prelude.{Ok, Err}
 
 -- what a refusal leaves, of a result
 record Leaves (m : Machine) (memory : List ℕ) (c : Call) (r : Result) : Type 0 where
@@ -34,17 +34,17 @@ record Leaves (m : Machine) (memory : List ℕ) (c : Call) (r : Result) : Type 0
 
 -- a refusal's number
 named : (r : Answer) → refused r ≡ true → among (numbers r).answer refusals ≡ true
-named (Answer.Done t) h = absurd (false≢true h)
-named Answer.Unknown h = refl
-named (Answer.NotServed Width) h = refl
-named (Answer.NotServed Root) h = refl
-named (Answer.NotServed Paging) h = refl
-named (Answer.NotServed Extension) h = refl
-named (Answer.NotServed Spaces) h = refl
-named Answer.Form h = refl
-named (Answer.Outside at l n) h = refl
-named Answer.SpaceNumber h = refl
-named (Answer.Fault code l n) h = refl
+named (Ok t) h = absurd (false≢true h)
+named (Err Refusal.Unknown) h = refl
+named (Err (Refusal.NotServed Width)) h = refl
+named (Err (Refusal.NotServed Root)) h = refl
+named (Err (Refusal.NotServed Paging)) h = refl
+named (Err (Refusal.NotServed Extension)) h = refl
+named (Err (Refusal.NotServed Spaces)) h = refl
+named (Err Refusal.Form) h = refl
+named (Err (Refusal.Outside at l n)) h = refl
+named (Err Refusal.SpaceNumber) h = refl
+named (Err (Refusal.Fault code l n)) h = refl
 
 module _ (m : Machine) (memory : List ℕ) where
   -- a refused call that leaves the machine as it was
@@ -85,32 +85,32 @@ module _ (m : Machine) (memory : List ℕ) where
   -- a load that is refused leaves the machine
   load_leaves : (c : Call) → ((r : Answer) (i : ℕ) → held i m.cache ≡ leaves m.settings c r (held i m.cache)) → (x : Machine) (service : Service)
       → refused (load_answer service) ≡ true → Leaves m memory c (record { answer = load_answer service; machine = if_served service x m; memory = memory })
-  load_leaves c same x Served h = absurd (false≢true h)
-  load_leaves c same x (NotServed why) h = unmoved c (Answer.NotServed why) (same (Answer.NotServed why)) h
+  load_leaves c same x (Ok tt) h = absurd (false≢true h)
+  load_leaves c same x (Err why) h = unmoved c (Err (Refusal.NotServed why)) (same (Err (Refusal.NotServed why))) h
 
   -- INVPCID by what its tests find
-  abbrev invpcid_result : ℕ → ℕ → VirtAddr → Bool → Bool → Bool → Stepped
+  abbrev invpcid_result : ℕ → ℕ → VirtAddr → Bool → Bool → Bool → Stepped Answer
   invpcid_result kind number address known served form =
       cond known
       (cond served
-      (cond form (record { answer = done; machine = with_cache m (drop_cache (kind_drop kind number address) m.cache) }) (refused_with Answer.Form m))
-      (refused_with Answer.SpaceNumber m))
-      (refused_with Answer.Unknown m)
+      (cond form (record { answer = done; machine = with_cache m (drop_cache (kind_drop kind number address) m.cache) }) (refused_with (Err Refusal.Form) m))
+      (refused_with (Err Refusal.SpaceNumber) m))
+      (refused_with (Err Refusal.Unknown) m)
 
-  store_leaves : (at value : ℕ) (ok : Bool) → refused (cond ok done (Answer.Outside (record { 0 = at }) 0 0)) ≡ true
+  store_leaves : (at value : ℕ) (ok : Bool) → refused (cond ok done (Err (Refusal.Outside (record { 0 = at }) 0 0))) ≡ true
       → Leaves m memory (Call.Store at value)
-      (record { answer = cond ok done (Answer.Outside (record { 0 = at }) 0 0); machine = m; memory = cond ok (store 8 memory at value) memory })
+      (record { answer = cond ok done (Err (Refusal.Outside (record { 0 = at }) 0 0)); machine = m; memory = cond ok (store 8 memory at value) memory })
   store_leaves at value true h = absurd (false≢true h)
-  store_leaves at value false h = unmoved (Call.Store at value) (Answer.Outside (record { 0 = at }) 0 0) (λ i. refl) h
+  store_leaves at value false h = unmoved (Call.Store at value) (Err (Refusal.Outside (record { 0 = at }) 0 0)) (λ i. refl) h
 
   -- INVPCID that is refused leaves the machine
   invpcid_leaves : (kind number : ℕ) (address : VirtAddr) (known served form : Bool)
       → refused (invpcid_result kind number address known served form).answer ≡ true
       → Leaves m memory (Call.Invpcid kind number address) (with_memory memory (invpcid_result kind number address known served form))
   invpcid_leaves kind number address true true true h = absurd (false≢true h)
-  invpcid_leaves kind number address true true false h = unmoved (Call.Invpcid kind number address) Answer.Form (λ i. refl) h
-  invpcid_leaves kind number address true false form h = unmoved (Call.Invpcid kind number address) Answer.SpaceNumber (λ i. refl) h
-  invpcid_leaves kind number address false served form h = unmoved (Call.Invpcid kind number address) Answer.Unknown (λ i. refl) h
+  invpcid_leaves kind number address true true false h = unmoved (Call.Invpcid kind number address) (Err Refusal.Form) (λ i. refl) h
+  invpcid_leaves kind number address true false form h = unmoved (Call.Invpcid kind number address) (Err Refusal.SpaceNumber) (λ i. refl) h
+  invpcid_leaves kind number address false served form h = unmoved (Call.Invpcid kind number address) (Err Refusal.Unknown) (λ i. refl) h
 
   call_leaves : (c : Call) → refused (step m memory c).answer ≡ true → Leaves m memory c (step m memory c)
   unfolding step stored_result root_loaded settings_loaded page_dropped all_dropped invalidated

@@ -10,7 +10,7 @@ use Rattle.address.specs.Address.{tag}
 use Rattle.walk.specs.declared.Way.{Way}
 use Rattle.walk.specs.Walk.{walk_answer, walk_memory}
 use Rattle.walk.specs.Translate.{answered, translated, translated_memory}
-use Rattle.cache.specs.declared.Found.TheVariants as Found
+use Rattle.std.specs.Prelude.{Some}
 use Rattle.cache.specs.declared.Place.{Place}
 use Rattle.cache.specs.Places.{key_of, mine, set_index, serves}
 use Rattle.cache.specs.Whole.{held}
@@ -34,7 +34,7 @@ module _ (now : Stand) (size : ℕ) (w : Latest) (address : VirtAddr) (access mo
   s = now.machine.settings
 
   -- a hit under the premise
-  fresh_hit : (a : Way) (p : Place) → find_cache (wanted s address a) now.machine.cache ≡ Found.At p
+  fresh_hit : (a : Way) (p : Place) → find_cache (wanted s address a) now.machine.cache ≡ Some p
       → (without_reads (hit address p) ≡ without_reads (answered s address a (walk_answer s address a now.memory))) × (now.memory ≡ walk_memory s address a now.memory)
   fresh_hit a p found = go w premise (has_member (Own (tag address) (present_number now) s size w) member.0 sound.backed same own_number)
     where

@@ -10,16 +10,14 @@ use lib.ListN.{length}
 use Rattle.word.specs.Bytes.{inside, stored, store}
 use Rattle.word.proofs.Laws.{store_length}
 use Rattle.settings.specs.declared.Settings.{Settings}
-use Rattle.settings.specs.declared.Service.{Service}
-use Rattle.settings.specs.declared.Service.TheVariants.{Served, NotServed}
-use Rattle.settings.specs.Settings.{initial, space_number, judged_from}
+use Rattle.settings.specs.Settings.{Service, initial, space_number, judged_from}
 use Rattle.address.specs.declared.VirtAddr.{VirtAddr}
 use Rattle.address.specs.Address.{tag, canonical}
 use Rattle.walk.specs.declared.Way.{Way}
-use Rattle.walk.specs.declared.Answer.{Answer}
+use Rattle.walk.specs.declared.Refusal.{Refusal}
+use Rattle.walk.specs.Answers.{Answer}
 use Rattle.walk.specs.declared.Asked.TheVariants as Asked
 use Rattle.walk.specs.declared.Mapping.{Mapping}
-use Rattle.walk.specs.declared.Walked.TheVariants as Walked
 use Rattle.walk.specs.Access.{writes}
 use Rattle.walk.specs.Path.{end_of}
 use Rattle.walk.specs.Walk.{walk_path, walk_answer, walk_memory}
@@ -47,6 +45,7 @@ use Rattle.machine.proofs.Translations.{not_accepted, Goes, quiet, hits, fills, 
 use Rattle.machine.proofs.Translations as Ways
 use Rattle.machine.proofs.Lists.{Has}
 use Rattle.machine.proofs.Sound.{Own, Sound, forgotten_nothing, forgotten_unless, contradiction, noted_quiet, noted_drop, noted_other, noted_walk, dropped, emptied, filled_own, filled_other, root_alike}
+use Rattle.std.specs.Prelude.{Ok, Err}
 
 module _ (t n size : ℕ) (m : Machine) (memory : List ℕ) (w : Latest) (sound : Sound t n size (record { machine = m; memory = memory }) w) where
   abbrev s : Settings
@@ -79,7 +78,7 @@ module _ (t n size : ℕ) (m : Machine) (memory : List ℕ) (w : Latest) (sound 
     this = Call.Translate address access mode
 
     -- a fill
-    after_fill : (a : Way) (f : Mapping) → asked s address access mode ≡ Asked.On a → walk_answer s address a memory ≡ Walked.Mapped f
+    after_fill : (a : Way) (f : Mapping) → asked s address access mode ≡ Ok (Asked.On a) → walk_answer s address a memory ≡ Ok f
         → Next this (filled_result m memory address access mode a f)
     after_fill a f on is =
         record { sixteen = fill_sixteen new m.cache sound.sixteen; as_long = long; backed = by_cases (walked_for t n s address memory r) own other }
@@ -91,7 +90,7 @@ module _ (t n size : ℕ) (m : Machine) (memory : List ℕ) (w : Latest) (sound 
         left = walk_memory s address a memory
 
         r : Answer
-        r = answered s address a (Walked.Mapped f)
+        r = answered s address a (Ok f)
 
         is_due : Due s address access mode a
         is_due = due s address access mode a on
@@ -156,7 +155,7 @@ module _ (t n size : ℕ) (m : Machine) (memory : List ℕ) (w : Latest) (sound 
   after_store : (at value : ℕ) → Next (Call.Store at value) (step m memory (Call.Store at value))
   unfolding step Calls.stored_result
   after_store at value =
-      unchanged (Call.Store at value) (cond (inside memory at) done (Answer.Outside (record { 0 = at }) 0 0)) (stored memory at value) (long (inside memory at))
+      unchanged (Call.Store at value) (cond (inside memory at) done (Err (Refusal.Outside (record { 0 = at }) 0 0))) (stored memory at value) (long (inside memory at))
       (forgotten_nothing w)
     where
       long : (b : Bool) → length (cond b (store 8 memory at value) memory) ≡ length memory
@@ -170,15 +169,15 @@ module _ (t n size : ℕ) (m : Machine) (memory : List ℕ) (w : Latest) (sound 
     where
       go : (x : Service) → Next (Call.LoadRoot value)
           (record { answer = load_answer x; machine = if_served x (record { settings = with_root s value; cache = drop_cache (root_drop s value) m.cache }) m; memory = memory })
-      go Served =
+      go (Ok tt) =
           record {
             sixteen = drop_sixteen (root_drop s value) m.cache;
             as_long = sound.as_long;
             backed = dropped t n size s (with_root s value) (root_alike s value) (root_drop s value) w m.cache sound.backed;
           }
-      go (NotServed why) =
-          unchanged (Call.LoadRoot value) (Answer.NotServed why) memory refl
-          (forgotten_unless (accepted (Answer.NotServed why)) (root_drop s value) w (not_accepted why))
+      go (Err why) =
+          unchanged (Call.LoadRoot value) (Err (Refusal.NotServed why)) memory refl
+          (forgotten_unless (accepted (Err (Refusal.NotServed why))) (root_drop s value) w (not_accepted why))
 
   -- a settings load
   after_settings : (cr0 cr4 efer width : ℕ) → Next (Call.LoadSettings cr0 cr4 efer width) (step m memory (Call.LoadSettings cr0 cr4 efer width))
@@ -187,16 +186,16 @@ module _ (t n size : ℕ) (m : Machine) (memory : List ℕ) (w : Latest) (sound 
     where
       go : (x : Service) → Next (Call.LoadSettings cr0 cr4 efer width)
           (record { answer = load_answer x; machine = if_served x (record { settings = with_settings s cr0 cr4 efer width; cache = empty_cache }) m; memory = memory })
-      go Served =
+      go (Ok tt) =
           record {
             sixteen = empty_sixteen;
             as_long = sound.as_long;
             backed =
                 emptied t n size (with_settings s cr0 cr4 efer width) (forgotten All w) m.cache sound.sixteen;
           }
-      go (NotServed why) =
-          unchanged (Call.LoadSettings cr0 cr4 efer width) (Answer.NotServed why) memory refl
-          (forgotten_unless (accepted (Answer.NotServed why)) All w (not_accepted why))
+      go (Err why) =
+          unchanged (Call.LoadSettings cr0 cr4 efer width) (Err (Refusal.NotServed why)) memory refl
+          (forgotten_unless (accepted (Err (Refusal.NotServed why))) All w (not_accepted why))
 
   -- "drop all"
   after_all : Next Call.DropAll (step m memory Call.DropAll)
@@ -221,13 +220,13 @@ module _ (t n size : ℕ) (m : Machine) (memory : List ℕ) (w : Latest) (sound 
     where
       go : (known served form : Bool) → Next (Call.Invpcid kind number address) (with_memory memory (cond known
           (cond served
-          (cond form (record { answer = done; machine = with_cache m (drop_cache (kind_drop kind number address) m.cache) }) (refused_with Answer.Form m))
-          (refused_with Answer.SpaceNumber m))
-          (refused_with Answer.Unknown m)))
+          (cond form (record { answer = done; machine = with_cache m (drop_cache (kind_drop kind number address) m.cache) }) (refused_with (Err Refusal.Form) m))
+          (refused_with (Err Refusal.SpaceNumber) m))
+          (refused_with (Err Refusal.Unknown) m)))
       go true true true = after_drop (kind_drop kind number address) _ refl
-      go true true false = unchanged (Call.Invpcid kind number address) Answer.Form memory refl (forgotten_nothing w)
-      go true false form = unchanged (Call.Invpcid kind number address) Answer.SpaceNumber memory refl (forgotten_nothing w)
-      go false served form = unchanged (Call.Invpcid kind number address) Answer.Unknown memory refl (forgotten_nothing w)
+      go true true false = unchanged (Call.Invpcid kind number address) (Err Refusal.Form) memory refl (forgotten_nothing w)
+      go true false form = unchanged (Call.Invpcid kind number address) (Err Refusal.SpaceNumber) memory refl (forgotten_nothing w)
+      go false served form = unchanged (Call.Invpcid kind number address) (Err Refusal.Unknown) memory refl (forgotten_nothing w)
 
   -- every call
   after_call : (c : Call) → Next c (step m memory c)
@@ -264,5 +263,5 @@ pub start_sound : (t n : ℕ) (s : Settings) (memory : List ℕ) → Sound t n (
 start_sound t n s memory = go (judged_from initial s)
   where
     go : (x : Service) → Sound t n (length memory) (record { machine = if_served x (record { settings = s; cache = empty_cache }) initial_machine; memory = memory }) none
-    go Served = record { sixteen = empty_sixteen; as_long = refl; backed = emptied t n (length memory) s none empty_cache empty_sixteen }
-    go (NotServed why) = record { sixteen = empty_sixteen; as_long = refl; backed = emptied t n (length memory) initial none empty_cache empty_sixteen }
+    go (Ok tt) = record { sixteen = empty_sixteen; as_long = refl; backed = emptied t n (length memory) s none empty_cache empty_sixteen }
+    go (Err why) = record { sixteen = empty_sixteen; as_long = refl; backed = emptied t n (length memory) initial none empty_cache empty_sixteen }

@@ -1,9 +1,6 @@
 -- A place's flags as a number: each is where it was put, and those wanted are there where each is.
-use Prim.Native.Nat.{◌+◌}
 use mathlib.Core.Path.{◌≡◌, refl}
-use mathlib.Core.Bool.{Bool, true, not, ◌&&◌, ◌||◌, cond, beq}
-use borrow.Author.Tests.{eqb-true}
-use lib.Dec.{eqb}
+use mathlib.Core.Bool.{Bool, true, not, ◌&&◌, ◌||◌, beq}
 use Rattle.word.specs.Bits.{bit, includes}
 use Rattle.entry.specs.Rights.{number}
 use Rattle.entry.proofs.Meeting.{every, at, same_true}
@@ -46,9 +43,3 @@ pub flags_each : (write user fetch dirty w u f d g : Bool)
 flags_each write user fetch dirty w u f d g =
     same_true (includes (with_dirty (number write user fetch) dirty) (flags_of w u f d g)) (all_given write user fetch dirty w u f d)
     (at_five (agree write user fetch dirty) (at_four (λ write user fetch dirty. five (agree write user fetch dirty)) refl write user fetch dirty) w u f d g)
-
--- the flags as the code sums them
-pub flags_sum : (w u f d : Bool) → cond w 1 0 + (cond u 2 0 + cond f 4 0) + cond d 8 0 ≡ with_dirty (number w u f) d
-flags_sum w u f d =
-    eqb-true (cond w 1 0 + (cond u 2 0 + cond f 4 0) + cond d 8 0) (with_dirty (number w u f) d)
-    (at_four (λ w u f d. eqb (cond w 1 0 + (cond u 2 0 + cond f 4 0) + cond d 8 0) (with_dirty (number w u f) d)) refl w u f d)

@@ -16,8 +16,7 @@ use Rattle.entry.specs.Rights.{number, allow}
 use Rattle.entry.specs.Says.{says}
 use Rattle.walk.specs.declared.Way.{Way}
 use Rattle.walk.specs.declared.Mapping.{Mapping}
-use Rattle.walk.specs.declared.Walked.{Walked}
-use Rattle.walk.specs.declared.Walked.TheVariants.{Mapped}
+use Rattle.walk.specs.Answers.{Walked}
 use Rattle.walk.specs.Access.{needs_write, needed, writes, fetches}
 use Rattle.walk.specs.Path.{Path, Entry, path, entries, reads, rights, marks, every}
 use Rattle.walk.specs.Walk.{walked, after, walk_path, walk_answer, walk_memory}
@@ -38,6 +37,7 @@ use Rattle.machine.proofs.Reading.{Ending}
 use Rattle.machine.proofs.Rules.{number_write, number_user, number_fetch, given_allow, given_there}
 use Rattle.machine.proofs.Rewalk.{Success, succeeds, end_now, last_grew, rights_now, memory_now}
 use Rattle.machine.proofs.Places.{Alike, root_aligned, its, its_ending, found_memory, found_key}
+use Rattle.std.specs.Prelude.{Ok}
 
 -- what the entries read hold only grew
 holds_grew : (m after : List ℕ) (es : List Entry) → Holds m (left_in after es)
@@ -55,7 +55,7 @@ pub record Backs (s : Settings) (size : ℕ) (w : Walk) (p : Place) : Type 0 whe
   pub alike : Alike under s
   pub wide : 7 ≤ under.width
   pub as_long : length memory ≡ size
-  pub walk_found : walk_answer under at how memory ≡ Mapped found
+  pub walk_found : walk_answer under at how memory ≡ Ok found
   pub is_place : p ≡ place_of under at how found
   pub is_walk : w ≡ walk_of under at memory (walk_memory under at how memory)
 
@@ -69,7 +69,7 @@ backs_key s size w p k =
 -- A hit where each entry holds what the walk left: the fresh walk gives the same, and marks nothing.
 module _ (s under : Settings) (alike : Alike under s) (wide : 7 ≤ under.width) (same-root : root s ≡ root under)
     (m₀ m : List ℕ) (as_long : length m₀ ≡ length m) (at address : VirtAddr) (same_page : tag at ≡ tag address) (how a : Way)
-    (found : Mapping) (h : walk_answer under at how m₀ ≡ Mapped found)
+    (found : Mapping) (h : walk_answer under at how m₀ ≡ Ok found)
     (holds : Holds m (left_in (walk_memory under at how m₀) (entries (walk_path under at m₀)))) where
   abbrev then : Success (needed under how) (walk_path under at m₀) found
   then = its under at how m₀ found h
@@ -102,7 +102,7 @@ module _ (s under : Settings) (alike : Alike under s) (wide : 7 ≤ under.width)
       rights_now under.width (nxe under) wide (root under).0 (root_aligned under) m₀ m as_long at address same_page (writes how)
       then.last then.base then.at_end grew
 
-  now_finds : allow (needed s a) (rights (walk_path under at m₀)) ≡ true → walk_answer s address a m ≡ Mapped finds
+  now_finds : allow (needed s a) (rights (walk_path under at m₀)) ≡ true → walk_answer s address a m ≡ Ok finds
   now_finds allowed =
       ap (walked (needed s a)) fresh_path
       ∙ succeeds (needed s a) (walk_path under address m) (refreshed m then.last) then.base

@@ -6,13 +6,11 @@ pub mod Flags
 pub mod Frames
 pub mod Hits
 pub mod Lists
-pub mod Loading
 pub mod Marking
 pub mod Memory
 pub mod MovedPage
 pub mod Paths
 pub mod Places
-pub mod Probing
 pub mod Reading
 pub mod Rewalk
 pub mod Rules
@@ -20,6 +18,5 @@ pub mod Second
 pub mod Sets
 pub mod Sound
 pub mod Staying
-pub mod Storing
 pub mod Translations
 pub mod Values

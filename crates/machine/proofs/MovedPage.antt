@@ -9,7 +9,7 @@ use Rattle.settings.specs.declared.Settings.{Settings}
 use Rattle.settings.specs.Settings.{space_number}
 use Rattle.address.specs.declared.VirtAddr.{VirtAddr}
 use Rattle.address.specs.Address.{canonical, tag}
-use Rattle.walk.specs.declared.Answer.{Answer}
+use Rattle.walk.specs.Answers.{Answer}
 use Rattle.walk.specs.Path.{End, outside, missing, reserved, page, end_of}
 use Rattle.walk.specs.Walk.{walk_path}
 use Rattle.cache.specs.declared.Drop.{Drop}

@@ -16,7 +16,7 @@ use Rattle.entry.specs.declared.Says.{Says}
 use Rattle.entry.specs.Says.{says}
 use Rattle.entry.specs.Rights.{number}
 use Rattle.walk.specs.Path.{Path, End, Entry, ends, next, outside, missing, reserved, page, onward, path, entries, end_of, reads, rights, every}
-use Rattle.machine.proofs.Values.{Grown, says_same, bit_1, bit_2, bit_high}
+use Rattle.machine.proofs.Values.{Grown, says_same, bit_low, bit_high}
 
 -- every entry of a list has a property
 abbrev pub All : (Entry → Type 0) → List Entry → Type 0
@@ -141,5 +141,5 @@ every_again m test same p kept = ap (every test) (entries_again m p) ∙ every_a
 
 pub rights_again : (m : List ℕ) (p : Path) → All (Kept m) (entries p) → rights (reread m p) ≡ rights p
 rights_again m p kept =
-    λ i. number (every_again m (λ (v : ℕ). bit v 1) bit_1 p kept i) (every_again m (λ (v : ℕ). bit v 2) bit_2 p kept i)
+    λ i. number (every_again m (λ (v : ℕ). bit v 1) (λ v v' g. bit_low v v' 1 g (lit≤ tt)) p kept i) (every_again m (λ (v : ℕ). bit v 2) (λ v v' g. bit_low v v' 2 g (lit≤ tt)) p kept i)
     (every_again m (λ (v : ℕ). not (bit v 63)) (λ v v' g. ap not (bit_high v v' 63 g (lit≤ tt))) p kept i)

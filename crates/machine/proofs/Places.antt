@@ -15,7 +15,6 @@ use Rattle.entry.specs.Memory.{pat, memory_type}
 use Rattle.entry.specs.Rights.{number}
 use Rattle.walk.specs.declared.Way.{Way}
 use Rattle.walk.specs.declared.Mapping.{Mapping}
-use Rattle.walk.specs.declared.Walked.TheVariants.{Mapped}
 use Rattle.walk.specs.Access.{needs_write, needed, writes, fetches}
 use Rattle.walk.specs.Path.{Path, entries, end_of, rights, marks, every}
 use Rattle.walk.specs.Walk.{after, walk_path, walk_answer, walk_memory}
@@ -29,6 +28,7 @@ use Rattle.machine.proofs.Paths.{All}
 use Rattle.machine.proofs.Reading.{Read, Ending, AtPage, IsPage, read_path}
 use Rattle.machine.proofs.Rules.{number_write, number_user, number_fetch, allow_given, none_disabled, dirty_given}
 use Rattle.machine.proofs.Rewalk.{Success, success, reads_some}
+use Rattle.std.specs.Prelude.{Ok}
 
 -- settings that differ in the root alone
 pub record Alike (s s' : Settings) : Type 0 where
@@ -75,7 +75,7 @@ own_number true n = refl
 own_number false n = eq-eqb n n refl
 
 -- A success and its place.
-module _ (s : Settings) (va : VirtAddr) (a : Way) (m : List ℕ) (found : Mapping) (h : walk_answer s va a m ≡ Mapped found) where
+module _ (s : Settings) (va : VirtAddr) (a : Way) (m : List ℕ) (found : Mapping) (h : walk_answer s va a m ≡ Ok found) where
   -- the path, its end and its rights
   abbrev its_path : Path
   its_path = walk_path s va m

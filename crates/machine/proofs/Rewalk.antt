@@ -14,13 +14,14 @@ use Rattle.entry.specs.Says.{says}
 use Rattle.entry.specs.Rights.{allow}
 use Rattle.walk.specs.declared.Cause.TheVariants.{Rights}
 use Rattle.walk.specs.declared.Mapping.{Mapping}
-use Rattle.walk.specs.declared.Walked.TheVariants.{Mapped, Refused}
+use Rattle.walk.specs.declared.Unmapped.TheVariants.{Refused}
 use Rattle.walk.specs.Path.{Path, End, Entry, ends, next, outside, missing, reserved, page, path, entries, end_of, reads, rights, report, marks}
 use Rattle.walk.specs.Walk.{ended, walked}
 use Rattle.machine.proofs.Values.{Grown, grown_trans}
-use Rattle.machine.proofs.Paths.{All, all_map, Kept, reread, reread_end, refreshed, path_again, end_again, reads_again, rights_again}
+use Rattle.machine.proofs.Paths.{All, all_map, Kept, reread, reread_end, refreshed, path_again, end_again, rights_again}
 use Rattle.machine.proofs.Reading.{Read, IsPage, read_path}
 use Rattle.machine.proofs.Marking.{Aligned, Accessed, DirtyEnd, PlacedEnd, marks_grown, marks_accessed, marks_dirty, marks_none, marks_again, accessed_stays, set_stays}
+use Rattle.std.specs.Prelude.{Ok, Err}
 
 -- a walk that ends in a success: its last entry, its page's base, and that its rights allow
 pub record Success (need : ℕ) (p : Path) (found : Mapping) : Type 0 where
@@ -31,19 +32,19 @@ pub record Success (need : ℕ) (p : Path) (found : Mapping) : Type 0 where
   pub is_found : found ≡ record { base = record { 0 = base }; last = last.value; rights = rights p; size = last.level; reads = reads p }
 
 -- an answer that tells of a success
-pub success : (need : ℕ) (p : Path) (found : Mapping) → walked need p ≡ Mapped found → Success need p found
+pub success : (need : ℕ) (p : Path) (found : Mapping) → walked need p ≡ Ok found → Success need p found
 unfolding ended
 success need p found h = go (end_of p) refl h
   where
     judged : (e : Entry) (b : ℕ) (ok : Bool) → end_of p ≡ page e b → allow need (rights p) ≡ ok
-        → cond ok (Mapped (record { base = record { 0 = b }; last = e.value; rights = rights p; size = e.level; reads = reads p }))
-        (Refused (Rights (report need (entries p))) (reads p))
-        ≡ Mapped found
+        → cond ok (Ok (record { base = record { 0 = b }; last = e.value; rights = rights p; size = e.level; reads = reads p }))
+        (Err (Refused (Rights (report need (entries p))) (reads p)))
+        ≡ Ok found
         → Success need p found
     judged e b true end ok h = record { last = e; base = b; at_end = end; allowed = ok; is_found = cc }
     judged e b false end ok h = record { last = e; base = b; at_end = end; allowed = cc; is_found = cc }
 
-    go : (x : End) → end_of p ≡ x → ended need p x ≡ Mapped found → Success need p found
+    go : (x : End) → end_of p ≡ x → ended need p x ≡ Ok found → Success need p found
     go (outside l at) end h = let z : ◌≡◌ {A = ℕ} 0 1 = cc in absurd (omega arith)
     go (missing e) end h = let z : ◌≡◌ {A = ℕ} 0 1 = cc in absurd (omega arith)
     go (reserved e) end h = let z : ◌≡◌ {A = ℕ} 0 1 = cc in absurd (omega arith)
@@ -51,7 +52,7 @@ success need p found h = go (end_of p) refl h
 
 -- and the other way round
 pub succeeds : (need : ℕ) (p : Path) (e : Entry) (b : ℕ) → end_of p ≡ page e b → allow need (rights p) ≡ true
-    → walked need p ≡ Mapped (record { base = record { 0 = b }; last = e.value; rights = rights p; size = e.level; reads = reads p })
+    → walked need p ≡ Ok (record { base = record { 0 = b }; last = e.value; rights = rights p; size = e.level; reads = reads p })
 unfolding ended
 succeeds need p e b end ok = rw (end, ok)
 
@@ -130,9 +131,6 @@ module _ (width : ℕ) (nxe : Bool) (wide : 7 ≤ width) (root : ℕ) (root_alig
 
     pub rights_now : rights now ≡ rights before
     rights_now = ap (λ (p : Path). rights p) again ∙ rights_again m before kept
-
-    pub reads_now : reads now ≡ reads before
-    reads_now = ap (λ (p : Path). reads p) again ∙ reads_again m before
 
     accessed_now : All (Accessed m) (entries before)
     accessed_now =

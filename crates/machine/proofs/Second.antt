@@ -12,10 +12,9 @@ use Rattle.entry.specs.Memory.{memory_type}
 use Rattle.walk.specs.declared.Way.{Way}
 use Rattle.walk.specs.declared.Asked.TheVariants as Asked
 use Rattle.walk.specs.declared.Mapping.{Mapping}
-use Rattle.walk.specs.declared.Walked.TheVariants as Walked
 use Rattle.walk.specs.Walk.{walk_answer, walk_memory}
 use Rattle.walk.specs.Translate.{asked, answered, numbers}
-use Rattle.cache.specs.declared.Found.TheVariants as Found
+use Rattle.std.specs.Prelude.{Some, Ok}
 use Rattle.cache.specs.declared.Place.{Place}
 use Rattle.cache.specs.Places.{key_of, set_index, filled_in, spares}
 use Rattle.cache.specs.Sets.{keep}
@@ -40,7 +39,7 @@ use Rattle.machine.proofs.Staying.{Remembers, remembered, found_again}
 
 -- a translation that finds a place
 hit_result : (m : Machine) (memory : List ℕ) (address : VirtAddr) (access mode : ℕ) (a : Way) (p : Place)
-    → asked m.settings address access mode ≡ Asked.On a → find_cache (wanted m.settings address a) m.cache ≡ Found.At p
+    → asked m.settings address access mode ≡ Ok (Asked.On a) → find_cache (wanted m.settings address a) m.cache ≡ Some p
     → (step m memory (Call.Translate address access mode)).answer ≡ hit address p
 unfolding step Calls.translated probed
 hit_result m memory address access mode a p on found = rw (on, found)
@@ -50,7 +49,7 @@ piece : (x y : ℕ) → (x % 2 ^ 64 / 4096 * 4096 + y % 2 ^ 12 % 4096) % 2 ^ 64 
 piece x y = omega arith
 
 again_numbers : (s : Settings) (first later : VirtAddr) (a : Way) (f : Mapping)
-    → numbers (hit later (place_of s first a f)) ≡ again (numbers (answered s first a (Walked.Mapped f))) later
+    → numbers (hit later (place_of s first a f)) ≡ again (numbers (answered s first a (Ok f))) later
 again_numbers s first later a f =
     ap (λ (x : ℕ). record { answer = 0; value = x; detail = f.size; reads = 0; memory_type = memory_type f.size f.last }) (piece (f.base.0 + offset first f.size) later.0)
 
@@ -68,7 +67,7 @@ module _ (now : Stand) (sixteen : Sixteen now.machine.cache) (first later : Virt
       → numbers (gives (run (record { machine = r.machine; memory = r.memory }) between) (Call.Translate later access mode)).answer
       ≡ again (numbers r.answer) later
 
-  after_fill : (a : Way) (f : Mapping) → asked s first access mode ≡ Asked.On a → walk_answer s first a now.memory ≡ Walked.Mapped f
+  after_fill : (a : Way) (f : Mapping) → asked s first access mode ≡ Ok (Asked.On a) → walk_answer s first a now.memory ≡ Ok f
       → Promise (filled_result now.machine now.memory first access mode a f)
   after_fill a f on found success spared one_number =
       ap numbers (hit_result end.machine end.memory later access mode a (place_of s first a f) on_later find_later)
@@ -113,10 +112,10 @@ module _ (now : Stand) (sixteen : Sixteen now.machine.cache) (first later : Virt
           (record { machine = filled_now; memory = walk_memory s first a now.memory }) between at_first
           spared
 
-      on_later : asked end.machine.settings later access mode ≡ Asked.On a
+      on_later : asked end.machine.settings later access mode ≡ Ok (Asked.On a)
       on_later = due_again s end.machine.settings first later access mode a at_end.alike at_end.serving (sym same) is_due
 
-      find_later : find_cache (wanted end.machine.settings later a) end.machine.cache ≡ Found.At (place_of s first a f)
+      find_later : find_cache (wanted end.machine.settings later a) end.machine.cache ≡ Some (place_of s first a f)
       find_later =
           found_again (tag first) pages at_most (place_of s first a f) refl its_walk its_key s end.machine (wanted end.machine.settings later a) same
           (found_serves s first a now.memory f found end.machine.settings later at_end.alike (sym same) (sym one_number)) at_end

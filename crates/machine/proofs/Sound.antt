@@ -11,7 +11,7 @@ use Rattle.settings.specs.declared.Settings.{Settings}
 use Rattle.settings.specs.Settings.{space_number}
 use Rattle.address.specs.declared.VirtAddr.{VirtAddr}
 use Rattle.address.specs.Address.{tag}
-use Rattle.walk.specs.declared.Answer.{Answer}
+use Rattle.walk.specs.Answers.{Answer}
 use Rattle.walk.specs.Path.{end_of}
 use Rattle.walk.specs.Walk.{walk_path}
 use Rattle.cache.specs.declared.Cache.{Cache}

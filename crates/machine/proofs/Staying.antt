@@ -9,18 +9,16 @@ use borrow.Author.Tests.{eqb-false, eq-eqb, ne_eqb}
 use lib.Dec.{eqb, leb}
 use lib.ListN.{length, take}
 use Rattle.settings.specs.declared.Settings.{Settings}
-use Rattle.settings.specs.declared.Service.{Service}
-use Rattle.settings.specs.declared.Service.TheVariants.{Served, NotServed}
-use Rattle.settings.specs.Settings.{served, space_number, judged_from}
+use Rattle.settings.specs.Settings.{Service, served, space_number, judged_from}
 use Rattle.settings.proofs.Laws.{judged_from_lem}
 use Rattle.address.specs.declared.VirtAddr.{VirtAddr}
 use Rattle.address.specs.Address.{tag, canonical}
-use Rattle.walk.specs.declared.Answer.TheVariants as Answer
+use Rattle.walk.specs.declared.Refusal.TheVariants as Refusal
 use Rattle.walk.proofs.Asking.{judged_served}
 use Rattle.cache.specs.declared.Cache.{Cache}
 use Rattle.cache.specs.declared.Drop.{Drop}
 use Rattle.cache.specs.declared.Drop.TheVariants.{Page, All, Nothing}
-use Rattle.cache.specs.declared.Found.TheVariants as Found
+use Rattle.std.specs.Prelude.{Some, Ok, Err}
 use Rattle.cache.specs.declared.Place.{Place}
 use Rattle.cache.specs.declared.Wanted.{Wanted}
 use Rattle.cache.specs.Places.{key_of, set_index, filled_in, takes, left, other_tag, spares, serves}
@@ -172,7 +170,7 @@ module _ (t : ℕ) (pages : List Numbered) (at_most : length pages ≤ others) (
                 machine = if_served x (record { settings = with_root m.settings value; cache = drop_cache (root_drop m.settings value) m.cache }) m;
                 memory = memory;
               })
-          go Served ok = λ no_drop not-asked counting.
+          go (Ok tt) ok = λ no_drop not-asked counting.
               record {
                 stays_in = drop_stays (root_drop m.settings value) m.cache no_drop k.stays_in;
                 alike = record {
@@ -183,7 +181,7 @@ module _ (t : ℕ) (pages : List Numbered) (at_most : length pages ≤ others) (
                 };
                 serving = judged_served (with_root m.settings value) (judged_from_lem m.settings (with_root m.settings value) ok);
               }
-          go (NotServed why) ok = λ no_drop not-asked counting. k
+          go (Err why) ok = λ no_drop not-asked counting. k
 
       after_settings : (cr0 cr4 efer width : ℕ) → Spared (Call.LoadSettings cr0 cr4 efer width) (step m memory (Call.LoadSettings cr0 cr4 efer width))
       unfolding step Calls.settings_loaded
@@ -194,8 +192,8 @@ module _ (t : ℕ) (pages : List Numbered) (at_most : length pages ≤ others) (
             machine = if_served x (record { settings = with_settings m.settings cr0 cr4 efer width; cache = empty_cache }) m;
             memory = memory;
           })
-          go Served = λ no_drop not-asked counting. absurd (all_taken w no_drop)
-          go (NotServed why) = λ no_drop not-asked counting. k
+          go (Ok tt) = λ no_drop not-asked counting. absurd (all_taken w no_drop)
+          go (Err why) = λ no_drop not-asked counting. k
 
       after_page : (address : VirtAddr) → Spared (Call.DropPage address) (step m memory (Call.DropPage address))
       unfolding step Calls.page_dropped
@@ -218,9 +216,9 @@ module _ (t : ℕ) (pages : List Numbered) (at_most : length pages ≤ others) (
         where
           go : (known served form : Bool) → Spared (Call.Invpcid kind number address) (with_memory memory (cond known
               (cond served
-              (cond form (record { answer = done; machine = with_cache m (drop_cache (kind_drop kind number address) m.cache) }) (refused_with Answer.Form m))
-              (refused_with Answer.SpaceNumber m))
-              (refused_with Answer.Unknown m)))
+              (cond form (record { answer = done; machine = with_cache m (drop_cache (kind_drop kind number address) m.cache) }) (refused_with (Err Refusal.Form) m))
+              (refused_with (Err Refusal.SpaceNumber) m))
+              (refused_with (Err Refusal.Unknown) m)))
           go true true true no_drop not-asked counting =
               with_cache_lem m (drop_cache (kind_drop kind number address) m.cache) k (drop_stays (kind_drop kind number address) m.cache no_drop k.stays_in)
           go true true false no_drop not-asked counting = k
@@ -245,7 +243,7 @@ module _ (t : ℕ) (pages : List Numbered) (at_most : length pages ≤ others) (
     remembered now (stores other ∷ es) k spared = remembered (leads now (stores other)) es k spared
 
     -- where the place serves, it is found
-    pub found_again : (m : Machine) (x : Wanted) → x.tag ≡ t → serves x p ≡ true → Remembers m → find_cache x m.cache ≡ Found.At p
+    pub found_again : (m : Machine) (x : Wanted) → x.tag ≡ t → serves x p ≡ true → Remembers m → find_cache x m.cache ≡ Some p
     found_again m x same serving k =
         find_cache_lem x m.cache
         ∙ ap (λ (u : ℕ). first_serving x (held (set_index u) m.cache)) same

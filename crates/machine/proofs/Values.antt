@@ -1,5 +1,5 @@
 -- An entry's value and the same with Accessed or Dirty set since: what an entry says and gives does not look at those two bits.
-use Prim.Native.Nat.{ℕ, ◌+◌, ◌-◌, ◌*◌, ◌/◌, ◌%◌, ◌^◌, ◌≤◌}
+use Prim.Native.Nat.{ℕ, zero, suc, ◌+◌, ◌-◌, ◌*◌, ◌/◌, ◌%◌, ◌^◌, ◌≤◌}
 use native.Mathlib.Nat.{le_refl, le_trans, div-div-eq-div-mul}
 use native.Mathlib.Omega.{arith}
 use mathlib.Core.Path.{◌≡◌, refl, sym, ap, ◌∙◌}
@@ -85,21 +85,17 @@ bit_high v v' k g h = ap (λ (x : ℕ). eqb (x % 2) 1) (high_same v v' k g h)
 pub field_high : (v v' k width : ℕ) → Grown v v' → 7 ≤ k → field v k width ≡ field v' k width
 field_high v v' k width g h = ap (λ (x : ℕ). x % 2 ^ width) (high_same v v' k g h)
 
--- bits below 5
-pub bit_0 : (v v' : ℕ) → Grown v v' → bit v 0 ≡ bit v' 0
-bit_0 v v' g = let same : v / 1 % 2 ≡ v' / 1 % 2 = omega (arith, g.low) in ap (λ (x : ℕ). eqb x 1) same
-
-pub bit_1 : (v v' : ℕ) → Grown v v' → bit v 1 ≡ bit v' 1
-bit_1 v v' g = let same : v / 2 % 2 ≡ v' / 2 % 2 = omega (arith, g.low) in ap (λ (x : ℕ). eqb x 1) same
-
-pub bit_2 : (v v' : ℕ) → Grown v v' → bit v 2 ≡ bit v' 2
-bit_2 v v' g = let same : v / 4 % 2 ≡ v' / 4 % 2 = omega (arith, g.low) in ap (λ (x : ℕ). eqb x 1) same
-
-pub bit_3 : (v v' : ℕ) → Grown v v' → bit v 3 ≡ bit v' 3
-bit_3 v v' g = let same : v / 8 % 2 ≡ v' / 8 % 2 = omega (arith, g.low) in ap (λ (x : ℕ). eqb x 1) same
-
-pub bit_4 : (v v' : ℕ) → Grown v v' → bit v 4 ≡ bit v' 4
-bit_4 v v' g = let same : v / 16 % 2 ≡ v' / 16 % 2 = omega (arith, g.low) in ap (λ (x : ℕ). eqb x 1) same
+-- a bit below 5
+pub bit_low : (v v' k : ℕ) → Grown v v' → k ≤ 4 → bit v k ≡ bit v' k
+bit_low v v' k g h = ap (λ (x : ℕ). eqb x 1) (same k h)
+  where
+    same : (j : ℕ) → j ≤ 4 → v / 2 ^ j % 2 ≡ v' / 2 ^ j % 2
+    same zero h = omega (arith, g.low)
+    same (suc zero) h = omega (arith, g.low)
+    same (suc (suc zero)) h = omega (arith, g.low)
+    same (suc (suc (suc zero))) h = omega (arith, g.low)
+    same (suc (suc (suc (suc zero)))) h = omega (arith, g.low)
+    same (suc (suc (suc (suc (suc j))))) h = absurd (omega arith)
 
 -- the memory type index does not look at A and D
 pub type_same : (level v v' : ℕ) → Grown v v' → memory_type level v ≡ memory_type level v'
@@ -107,9 +103,9 @@ type_same level v v' g = go (leb level 1)
   where
     go : (low : Bool) → cond ((low || bit v 7) && bit v (cond low 7 12)) 4 0 + (cond (bit v 4) 2 0 + cond (bit v 3) 1 0)
         ≡ cond ((low || bit v' 7) && bit v' (cond low 7 12)) 4 0 + (cond (bit v' 4) 2 0 + cond (bit v' 3) 1 0)
-    go true = λ i. cond (bit_high v v' 7 g (lit≤ tt) i) 4 0 + (cond (bit_4 v v' g i) 2 0 + cond (bit_3 v v' g i) 1 0)
+    go true = λ i. cond (bit_high v v' 7 g (lit≤ tt) i) 4 0 + (cond (bit_low v v' 4 g (lit≤ tt) i) 2 0 + cond (bit_low v v' 3 g (lit≤ tt) i) 1 0)
     go false =
-        λ i. cond (bit_high v v' 7 g (lit≤ tt) i && bit_high v v' 12 g (lit≤ tt) i) 4 0 + (cond (bit_4 v v' g i) 2 0 + cond (bit_3 v v' g i) 1 0)
+        λ i. cond (bit_high v v' 7 g (lit≤ tt) i && bit_high v v' 12 g (lit≤ tt) i) 4 0 + (cond (bit_low v v' 4 g (lit≤ tt) i) 2 0 + cond (bit_low v v' 3 g (lit≤ tt) i) 1 0)
 
 -- what an entry says at its level, from the parts that it looks at
 abbrev saying : Bool → ℕ → Bool → Bool → Bool → ℕ → ℕ → ℕ → ℕ → Says
@@ -124,6 +120,6 @@ saying nxe level present ps disabled above inside table base =
 pub says_same : (width : ℕ) (nxe : Bool) (level v v' : ℕ) → 7 ≤ width → 7 ≤ page_bits level → Grown v v'
     → says width nxe level v ≡ says width nxe level v'
 says_same width nxe level v v' wide deep g =
-    λ i. saying nxe level (bit_0 v v' g i) (bit_high v v' 7 g (lit≤ tt) i) (bit_high v v' 63 g (lit≤ tt) i)
+    λ i. saying nxe level (bit_low v v' 0 g (lit≤ tt) i) (bit_high v v' 7 g (lit≤ tt) i) (bit_high v v' 63 g (lit≤ tt) i)
     (field_high v v' width (52 - width) g wide i) (field_high v v' 13 (page_bits level - 13) g (lit≤ tt) i)
     (field_high v v' 12 40 g (lit≤ tt) i) (field_high v v' (page_bits level) (52 - page_bits level) g deep i)

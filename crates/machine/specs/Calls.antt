@@ -1,15 +1,14 @@
 -- Every call of the machine: its answer, the machine and memory afterwards.
-use Rattle.std.specs.Prelude.{ℕ, ◌%◌, ◌^◌, ◌≡◌, Bool, not, ◌&&◌, ◌||◌, cond, List, eqb, leb, ltb}
+use Rattle.std.specs.Prelude.{ℕ, ◌%◌, ◌^◌, ◌≡◌, Bool, not, ◌&&◌, ◌||◌, cond, List, eqb, leb, ltb, Ok, Err}
 use Rattle.word.specs.Bits.{bit}
 use Rattle.word.specs.Bytes.{inside, stored}
 use Rattle.settings.specs.declared.Settings.{Settings}
-use Rattle.settings.specs.declared.Service.{Service}
-use Rattle.settings.specs.declared.Service.TheVariants.{Served, NotServed}
-use Rattle.settings.specs.Settings.{initial, pcide, judged_from}
+use Rattle.settings.specs.Settings.{Service, initial, pcide, judged_from}
 use Rattle.address.specs.declared.VirtAddr.{VirtAddr}
 use Rattle.address.specs.Address.{canonical, tag}
 use Rattle.walk.specs.declared.Way.{Way}
-use Rattle.walk.specs.declared.Answer.{Answer}
+use Rattle.walk.specs.declared.Refusal.{Refusal}
+use Rattle.walk.specs.Answers.{Answer}
 use Rattle.walk.specs.Walk.{walk_answer, walk_memory}
 use Rattle.walk.specs.Translate.{answered, unpaged}
 use Rattle.cache.specs.declared.Cache.{Cache}
@@ -32,16 +31,16 @@ pub record Result : Type 0 where
   pub memory : List ℕ
 
 -- a function's answer and machine, and memory afterwards, are those of a result
-abbrev pub Gives : Result → Stepped → List ℕ → Type 0
+abbrev pub Gives : Result → Stepped Answer → List ℕ → Type 0
 Gives result r memory = (r.answer ≡ result.answer) × (r.machine ≡ result.machine) × (memory ≡ result.memory)
 
 -- an answer and a machine, with memory as it was
-abbrev pub with_memory : List ℕ → Stepped → Result
+abbrev pub with_memory : List ℕ → Stepped Answer → Result
 with_memory memory r = record { answer = r.answer; machine = r.machine; memory = memory }
 
 -- "done" where no translation was asked: "else 0"
 abbrev pub done : Answer
-done = Answer.Done (unpaged (record { 0 = 0 }))
+done = Ok (unpaged (record { 0 = 0 }))
 
 -- the machine with another cache
 abbrev pub with_cache : Machine → Cache → Machine
@@ -70,23 +69,23 @@ translated m memory address access mode =
 unfoldable pub stored_result : Machine → List ℕ → ℕ → ℕ → Result
 stored_result m memory at value =
     record {
-      answer = cond (inside memory at) done (Answer.Outside (record { 0 = at }) 0 0);
+      answer = cond (inside memory at) done (Err (Refusal.Outside (record { 0 = at }) 0 0));
       machine = m;
       memory = stored memory at value;
     }
 
 -- what a load is answered, by what is answered of the settings that it would leave
 abbrev pub load_answer : Service → Answer
-load_answer Served = done
-load_answer (NotServed why) = Answer.NotServed why
+load_answer (Ok served) = done
+load_answer (Err why) = Err (Refusal.NotServed why)
 
 -- something new where settings are served, else the old
 abbrev pub if_served : {A : Type 0} → Service → A → A → A
-if_served Served new old = new
-if_served (NotServed why) new old = old
+if_served (Ok served) new old = new
+if_served (Err why) new old = old
 
 -- "A settings or root load is judged by the settings it would leave; refused, it leaves settings and cache as they were."
-abbrev pub loaded : Machine → Settings → Cache → Stepped
+abbrev pub loaded : Machine → Settings → Cache → Stepped Answer
 loaded m s c =
     record {
       answer = load_answer (judged_from m.settings s);
@@ -106,7 +105,7 @@ abbrev pub root_drop : Settings → ℕ → Drop
 root_drop s value = cond (pcide s) (cond (bit value 63) Nothing (Number (value % 4096))) Local
 
 -- a root load
-unfoldable pub root_loaded : Machine → ℕ → Stepped
+unfoldable pub root_loaded : Machine → ℕ → Stepped Answer
 root_loaded m value = loaded m (with_root m.settings value) (drop_cache (root_drop m.settings value) m.cache)
 
 -- other settings: "CR3 stays"
@@ -114,11 +113,11 @@ abbrev pub with_settings : Settings → ℕ → ℕ → ℕ → ℕ → Settings
 with_settings s cr0 cr4 efer width = record { cr0 = cr0; cr3 = s.cr3; cr4 = cr4; efer = efer; width = width }
 
 -- "A settings load [..] drops everything and leaves zeros."
-unfoldable pub settings_loaded : Machine → ℕ → ℕ → ℕ → ℕ → Stepped
+unfoldable pub settings_loaded : Machine → ℕ → ℕ → ℕ → ℕ → Stepped Answer
 settings_loaded m cr0 cr4 efer width = loaded m (with_settings m.settings cr0 cr4 efer width) empty_cache
 
 -- "'Drop page' now drops each place whose own page, at its own size, contains the address"; "a non-canonical address changes nothing and answers 0"
-unfoldable pub page_dropped : Machine → VirtAddr → Stepped
+unfoldable pub page_dropped : Machine → VirtAddr → Stepped Answer
 page_dropped m address =
     record {
       answer = done;
@@ -126,7 +125,7 @@ page_dropped m address =
     }
 
 -- "'drop all' drops everything and leaves zeros"
-unfoldable pub all_dropped : Machine → Stepped
+unfoldable pub all_dropped : Machine → Stepped Answer
 all_dropped m = record { answer = done; machine = with_cache m empty_cache }
 
 -- "12 a space number above 4,095, or in kinds 0 and 1 not 0 with the feature off"
@@ -143,19 +142,19 @@ kind_drop kind number address =
     cond (eqb kind 0) (Piece (tag address) number) (cond (eqb kind 1) (Number number) (cond (eqb kind 2) All Local))
 
 -- a refusal that leaves the machine as it is
-abbrev pub refused_with : Answer → Machine → Stepped
+abbrev pub refused_with : Answer → Machine → Stepped Answer
 refused_with r m = record { answer = r; machine = m }
 
 -- INVPCID; "in this order: 1 unknown kind, 12 [..], 3"
-unfoldable pub invalidated : Machine → ℕ → ℕ → VirtAddr → Stepped
+unfoldable pub invalidated : Machine → ℕ → ℕ → VirtAddr → Stepped Answer
 invalidated m kind number address =
     cond (leb kind 3)
     (cond (number_served m.settings kind number)
     (cond (form_served kind address)
     (record { answer = done; machine = with_cache m (drop_cache (kind_drop kind number address) m.cache) })
-    (refused_with Answer.Form m))
-    (refused_with Answer.SpaceNumber m))
-    (refused_with Answer.Unknown m)
+    (refused_with (Err Refusal.Form) m))
+    (refused_with (Err Refusal.SpaceNumber) m))
+    (refused_with (Err Refusal.Unknown) m)
 
 -- one call
 unfoldable pub step : Machine → List ℕ → Call → Result
@@ -172,5 +171,5 @@ abbrev pub initial_machine : Machine
 initial_machine = record { settings = initial; cache = empty_cache }
 
 -- "A refused start gives" the number of what is wrong and the initial machine; "a start counts as turning on"
-abbrev pub started : Settings → Stepped
+abbrev pub started : Settings → Stepped Answer
 started s = loaded initial_machine s empty_cache

@@ -1,7 +1,7 @@
 -- Demand 1: "Any numbers, any memory and any remembered state get an answer. A refusal names its number and changes no guest byte. It leaves the remembered state alone too, except that a page fault or a table outside memory drops the page asked for."
 use Rattle.std.specs.Prelude.{ℕ, ◌≡◌, Bool, true, false, not, ◌||◌, cond, List, [], ◌∷◌, eqb}
 use Rattle.settings.specs.declared.Settings.{Settings}
-use Rattle.walk.specs.declared.Answer.{Answer}
+use Rattle.walk.specs.Answers.{Answer}
 use Rattle.walk.specs.Translate.{numbers}
 use Rattle.cache.specs.declared.Place.{Place}
 use Rattle.cache.specs.Places.{left}

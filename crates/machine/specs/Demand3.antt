@@ -4,7 +4,7 @@ use Rattle.settings.specs.declared.Settings.{Settings}
 use Rattle.settings.specs.Settings.{root, space_number}
 use Rattle.address.specs.declared.VirtAddr.{VirtAddr}
 use Rattle.address.specs.Address.{tag}
-use Rattle.walk.specs.declared.Answer.{Answer}
+use Rattle.walk.specs.Answers.{Answer}
 use Rattle.walk.specs.declared.Numbers.{Numbers}
 use Rattle.walk.specs.Translate.{translated, translated_memory, numbers}
 use Rattle.machine.specs.declared.Call.{Call}

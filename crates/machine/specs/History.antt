@@ -10,7 +10,7 @@ use Rattle.address.specs.Address.{canonical, tag}
 use Rattle.cache.specs.declared.Drop.{Drop}
 use Rattle.cache.specs.declared.Drop.TheVariants.{All, Nothing}
 use Rattle.cache.specs.Places.{Key, mine, takes}
-use Rattle.walk.specs.declared.Answer.{Answer}
+use Rattle.walk.specs.Answers.{Answer}
 use Rattle.walk.specs.Translate.{numbers}
 use Rattle.walk.specs.Path.{Entry, End, outside, missing, reserved, page, entries, end_of}
 use Rattle.walk.specs.Walk.{walk_path}

@@ -1,5 +1,5 @@
 -- What a translation wants of a place, what a hit is answered, and what is remembered after a walk.
-use Rattle.std.specs.Prelude.{ℕ, ◌+◌, Bool, cond, ◌&&◌, ◌||◌}
+use Rattle.std.specs.Prelude.{ℕ, ◌+◌, Bool, cond, ◌&&◌, ◌||◌, Ok, Err}
 use Rattle.word.specs.Bits.{bit}
 use Rattle.settings.specs.declared.Settings.{Settings}
 use Rattle.settings.specs.Settings.{pge, space_number}
@@ -9,9 +9,8 @@ use Rattle.entry.specs.Memory.{memory_type}
 use Rattle.entry.specs.Rights.{number}
 use Rattle.walk.specs.declared.Way.{Way}
 use Rattle.walk.specs.declared.Mapping.{Mapping}
-use Rattle.walk.specs.declared.Walked.{Walked}
-use Rattle.walk.specs.declared.Answer.{Answer}
-use Rattle.walk.specs.declared.Answer.TheVariants.{Done}
+use Rattle.walk.specs.declared.Unmapped.TheVariants.{Refused, Outside}
+use Rattle.walk.specs.Answers.{Walked, Answer}
 use Rattle.walk.specs.Access.{needs_write, needs_user, writes, fetches}
 use Rattle.cache.specs.declared.Cache.{Cache}
 use Rattle.cache.specs.declared.Drop.{Drop}
@@ -52,7 +51,7 @@ place_of s address a m =
 -- what a hit is answered: the place's frame and the offset in the page of 4 KiB, its size and memory type, no entry read
 abbrev pub hit : VirtAddr → Place → Answer
 hit address p =
-    Done (record { address = in_frame p.frame (offset address 1); size = p.size; memory_type = p.memory_type; reads = 0 })
+    Ok (record { address = in_frame p.frame (offset address 1); size = p.size; memory_type = p.memory_type; reads = 0 })
 
 -- "'Drop page' and the drop after a fault take the present number's and G places"
 abbrev pub page_drop : Settings → VirtAddr → Drop
@@ -60,6 +59,6 @@ page_drop s address = Page (tag address) (space_number s)
 
 -- "A success removes [..] places [..] and puts the new one first"; a fault or a table outside memory "drops the page asked for"
 abbrev pub remembered : Settings → Cache → VirtAddr → Way → Walked → Cache
-remembered s c address a (Walked.Mapped found) = fill_cache (place_of s address a found) c
-remembered s c address a (Walked.Refused cause n) = drop_cache (page_drop s address) c
-remembered s c address a (Walked.Outside at l n) = drop_cache (page_drop s address) c
+remembered s c address a (Ok found) = fill_cache (place_of s address a found) c
+remembered s c address a (Err (Refused cause n)) = drop_cache (page_drop s address) c
+remembered s c address a (Err (Outside at l n)) = drop_cache (page_drop s address) c

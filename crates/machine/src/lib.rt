@@ -18,7 +18,7 @@ pub struct Machine {
     pub cache: Cache,
 }
 
-// A call: a translation (address, access, mode), a store (address, value), the loads (CR3; CR0, CR4, EFER, M), the drops, INVPCID (kind, space number, address).
+// A call, its numbers one by one as a card or the host brings them, for Demand1 and Demand3 speak of calls so: a translation (address, access, mode), a store (address, value), the loads (CR3; CR0, CR4, EFER, M), the drops, INVPCID (kind, space number, address).
 #[derive(Clone, Copy)]
 pub enum Call {
     Translate(VirtAddr, u64, u64),
@@ -30,14 +30,14 @@ pub enum Call {
     Invpcid(u64, u64, VirtAddr),
 }
 
-// What a call gives beside memory: the answer and the machine afterwards.
+// What a call gives beside memory: what it answers, and the machine afterwards.
 #[derive(Clone, Copy)]
-pub struct Stepped {
-    pub answer: Answer,
+pub struct Stepped<T> {
+    pub answer: T,
     pub machine: Machine,
 }
 
-// What a translation finds before it walks: its answer, or that it has to walk.
+// What a translation finds before it walks: its answer, a refusal too, or that it has to walk; std's Break and Continue would say less.
 #[derive(Clone, Copy)]
 pub enum Probed {
     Answered(Answer),

@@ -2,19 +2,18 @@
 ghost use Rattle.std.specs.Prelude.{◌≡◌};
 ghost use Rattle.address.specs.Address.{tag};
 ghost use Rattle.cache.specs.Places.{set_index};
-ghost use Rattle.cache.specs.Sets.{fill_set};
+ghost use Rattle.cache.specs.Sets.{fill_set, find_in};
 ghost use Rattle.machine.specs.Calls as spec;
-ghost use Rattle.machine.specs.Probe.{probed};
-ghost use Rattle.machine.specs.Remember.{page_drop, place_of};
+ghost use Rattle.machine.specs.Probe.{probed, probed_found};
+ghost use Rattle.machine.specs.Remember.{page_drop, place_of, wanted};
 
 use crate::remember::{hit, place_of, wanted};
 use crate::{Machine, Probed, Stepped};
 use address::VirtAddr;
-use cache::{Cache, Drop, Found, Set};
+use cache::{Cache, Drop, Set};
 use settings::Settings;
-use walk::translate::{answer, ask, unpaged};
-use walk::walk::walk;
-use walk::{Answer, Asked, Mapping, Walked, Way};
+use walk::translate::ask;
+use walk::{Answer, Asked, Mapping, Question, Translation};
 
 // What a drop of an address's page takes.
 pub fn page_drop(settings: Settings, address: VirtAddr) -> Drop
@@ -23,38 +22,57 @@ pub fn page_drop(settings: Settings, address: VirtAddr) -> Drop
     Drop::Page(address.tag(), settings.space_number())
 }
 
+// What a question finds in the page's set before it walks.
+fn look(question: Question, set: Set) -> Probed
+    ensures { result ≡ probed_found question.address question.way
+        (find_in (set_index (tag question.address)) (wanted question.settings question.address question.way) set) }
+{
+    match set.find(Cache::set_of(question.address.tag()), wanted(question)) {
+        Some(place) => Probed::Answered(hit(question.address, place)),
+        None => Probed::Walk(question.way),
+    }
+}
+
 // What a translation finds in the page's set before it walks.
+#[tactic(auto, unfolding(crate::specs::Probe::probed))]
 pub fn probe(settings: Settings, set: Set, address: VirtAddr, access: u64, mode: u64) -> Probed
     ensures { result ≡ probed settings set address access mode }
 {
     match ask(settings, address, access, mode) {
-        Asked::Unknown => Probed::Answered(Answer::Unknown),
-        Asked::NotServed(why) => Probed::Answered(Answer::NotServed(why)),
-        Asked::Form => Probed::Answered(Answer::Form),
-        Asked::Off(at) => Probed::Answered(Answer::Done(unpaged(at))),
-        Asked::On(a) => {
-            let want = wanted(settings, address, a);
-            match set.find(Cache::set_of(address.tag()), want) {
-                Found::At(place) => Probed::Answered(hit(address, place)),
-                Found::Nothing => Probed::Walk(a),
-            }
+        Err(why) => Probed::Answered(Err(why)),
+        Ok(Asked::Off(at)) => Probed::Answered(Ok(Translation::unpaged(at))),
+        Ok(Asked::On(way)) => {
+            let question = Question {
+                settings,
+                address,
+                way,
+            };
+            look(question, set)
         }
     }
 }
 
 // The page's set after a walk that found it.
-pub fn fill(settings: Settings, set: Set, address: VirtAddr, way: Way, found: Mapping) -> Set
-    ensures { result ≡ fill_set (set_index (tag address)) (place_of settings address way found) set }
+pub fn fill(question: Question, set: Set, found: Mapping) -> Set
+    ensures { result ≡ fill_set (set_index (tag question.address))
+        (place_of question.settings question.address question.way found) set }
 {
     set.fill(
-        Cache::set_of(address.tag()),
-        place_of(settings, address, way, found),
+        Cache::set_of(question.address.tag()),
+        place_of(question, found),
     )
 }
 
 impl Machine {
     // A translation on the machine: a hit stores nothing, a walk that finds the page its own set, and a refused one drops the page from every set.
-    pub fn translate(self, address: VirtAddr, access: u64, mode: u64, memory: &mut [u8]) -> Stepped
+    #[tactic(auto, unfolding(crate::specs::Calls::translated, cache::specs::Whole::fill_cache))]
+    pub fn translate(
+        self,
+        address: VirtAddr,
+        access: u64,
+        mode: u64,
+        memory: &mut [u8],
+    ) -> Stepped<Answer>
         ensures { spec.Gives (spec.translated self memory.old address access mode) result memory.new }
     {
         let settings = self.settings;
@@ -67,19 +85,16 @@ impl Machine {
                 machine: self,
             },
             Probed::Walk(way) => {
-                let walked = walk(memory, settings, address, way);
-                let answer = answer(settings, address, way, walked);
+                let question = Question {
+                    settings,
+                    address,
+                    way,
+                };
+                let walked = question.walk(memory);
+                let answer = question.answer(walked);
                 match walked {
-                    Walked::Mapped(found) => {
-                        let filled = fill(settings, set, address, way, found);
-                        cache.sets[index] = filled;
-                    }
-                    Walked::Refused(_, _) => {
-                        cache = cache.drop(page_drop(settings, address));
-                    }
-                    Walked::Outside(_, _, _) => {
-                        cache = cache.drop(page_drop(settings, address));
-                    }
+                    Ok(found) => cache.sets[index] = fill(question, set, found),
+                    Err(_) => cache = cache.drop(page_drop(settings, address)),
                 }
                 Stepped {
                     answer,

@@ -1,12 +1,10 @@
 -- "Settings": the record's named bits, what is served, the root.
-use Rattle.std.specs.Prelude.{ℕ, ◌*◌, ◌/◌, ◌%◌, ◌^◌, Bool, true, false, not, ◌&&◌, ◌||◌, cond, eqb, leb, ltb}
+use Rattle.std.specs.Prelude.{ℕ, ◌*◌, ◌/◌, ◌%◌, ◌^◌, Bool, not, ◌&&◌, ◌||◌, cond, eqb, leb, ltb, ⊤, Result, Ok, Err}
 use Rattle.word.specs.Bits.{bit, field}
 use Rattle.address.specs.declared.PhysAddr.{PhysAddr}
 use Rattle.settings.specs.declared.Settings.{Settings}
 use Rattle.settings.specs.declared.Unserved.{Unserved}
 use Rattle.settings.specs.declared.Unserved.TheVariants.{Width, Root, Paging, Extension, Spaces}
-use Rattle.settings.specs.declared.Service.{Service}
-use Rattle.settings.specs.declared.Service.TheVariants.{Served, NotServed}
 
 -- "Used bits: CR0 PE 0, WP 16, PG 31; CR4 PAE 5, PGE 7; EFER LME 8, NXE 11"
 abbrev pub pe : Settings → Bool
@@ -69,20 +67,24 @@ spaces_served s = not (pcide s) || pg s
 abbrev pub served : Settings → Bool
 served s = width_served s && (root_served s && (mode_served s && (extensions_served s && spaces_served s)))
 
+-- what is answered of settings: that they are served, or what is wrong with them
+abbrev pub Service : Type 0
+Service = Result ⊤ Unserved
+
 -- what is answered of a settings record, "in this order": "2 width, 8 root too large for the width, 9 paging on without PE, PAE or LME, 10 an extension bit not served", "11, after 10"
 abbrev pub judged : Settings → Service
 judged s =
     cond (width_served s)
     (cond (root_served s)
     (cond (mode_served s)
-    (cond (extensions_served s) (cond (spaces_served s) Served (NotServed Spaces)) (NotServed Extension))
-    (NotServed Paging))
-    (NotServed Root))
-    (NotServed Width)
+    (cond (extensions_served s) (cond (spaces_served s) (Ok tt) (Err Spaces)) (Err Extension))
+    (Err Paging))
+    (Err Root))
+    (Err Width)
 
 -- the same with paging off, where width and root have passed
 abbrev pub judged_unpaged : Settings → Service
-judged_unpaged s = cond (pcide s) (NotServed Spaces) Served
+judged_unpaged s = cond (pcide s) (Err Spaces) (Ok tt)
 
 -- "CR3 bits 11:0 are then the space number (else it is 0)": the present number
 abbrev pub space_number : Settings → ℕ
@@ -94,8 +96,8 @@ turns_on_numbered before s = (not (pcide before) && pcide s) && not (eqb (s.cr3 
 
 -- a refusal stands, and what would be served is refused with 11
 abbrev pub refused_on : Service → Service
-refused_on Served = NotServed Spaces
-refused_on (NotServed why) = NotServed why
+refused_on (Ok served) = Err Spaces
+refused_on (Err why) = Err why
 
 -- what is answered of the settings that a load would leave, from those before it
 abbrev pub judged_from : Settings → Settings → Service
@@ -108,11 +110,6 @@ number Root = 8
 number Paging = 9
 number Extension = 10
 number Spaces = 11
-
--- a record that is served
-abbrev pub accepts : Service → Bool
-accepts Served = true
-accepts (NotServed why) = false
 
 -- "The low 12 bits of CR3 do not count; the rest is the root."
 abbrev pub root : Settings → PhysAddr

@@ -18,33 +18,22 @@ pub struct Settings {
     pub width: u64,
 }
 
-// What is wrong with a settings record that is not served: the width, the root for it, paging on without PE, PAE or LME, an extension bit, address-space numbers.
+// What is wrong with a settings record that is not served, and its number: the width, the root for it, paging on without PE, PAE or LME, an extension bit, address-space numbers.
 #[derive(Clone, Copy)]
 pub enum Unserved {
-    Width,
-    Root,
-    Paging,
-    Extension,
-    Spaces,
+    Width = 2,
+    Root = 8,
+    Paging = 9,
+    Extension = 10,
+    Spaces = 11,
 }
 
-// Whether a settings record is served.
-#[derive(Clone, Copy)]
-pub enum Service {
-    Served,
-    NotServed(Unserved),
-}
-
-// The number with which it is refused.
-pub fn number(unserved: Unserved) -> u64
-    ensures { result ≡ spec.number unserved }
-{
-    match unserved {
-        Unserved::Width => 2,
-        Unserved::Root => 8,
-        Unserved::Paging => 9,
-        Unserved::Extension => 10,
-        Unserved::Spaces => 11,
+impl Unserved {
+    // The number with which it is refused.
+    pub fn number(self) -> u64
+        ensures { result ≡ spec.number self }
+    {
+        self as u64
     }
 }
 
@@ -135,7 +124,7 @@ impl Settings {
     fn width_served(self) -> bool
         ensures { result ≡ spec.width_served self }
     {
-        (32 <= self.width) & (self.width <= 52)
+        matches!(self.width, 32..=52)
     }
 
     // Whether CR3 is below 2^M.
@@ -153,73 +142,63 @@ impl Settings {
     fn mode(self) -> bool
         ensures { result ≡ spec.mode self }
     {
-        let pe = bit(self.cr0, Settings::PE);
-        let pae = bit(self.cr4, Settings::PAE);
-        let lme = bit(self.efer, Settings::LME);
-        pe & (pae & lme)
+        bit(self.cr0, Settings::PE) && bit(self.cr4, Settings::PAE) && bit(self.efer, Settings::LME)
     }
 
     // Whether CR4 bits 12 and 20 to 24 are clear, as paging needs them.
     fn extensions(self) -> bool
         ensures { result ≡ spec.extensions self }
     {
-        let five_levels = bit(self.cr4, 12);
-        let later = field(self.cr4, 20, 5);
-        !five_levels & (later == 0)
+        !bit(self.cr4, 12) && field(self.cr4, 20, 5) == 0
     }
 
     // The first test that fails, in the order width, root, mode, extensions, space numbers.
-    pub fn judge(self) -> Service
+    pub fn judge(self) -> Result<(), Unserved>
         ensures { result ≡ spec.judged self }
     {
         if !self.width_served() {
-            return Service::NotServed(Unserved::Width);
+            return Err(Unserved::Width);
         }
         if !self.root_served() {
-            return Service::NotServed(Unserved::Root);
+            return Err(Unserved::Root);
         }
         if !self.pg() {
             return self.judge_unpaged();
         }
         if !self.mode() {
-            return Service::NotServed(Unserved::Paging);
+            return Err(Unserved::Paging);
         }
         if !self.extensions() {
-            return Service::NotServed(Unserved::Extension);
+            return Err(Unserved::Extension);
         }
-        Service::Served
+        Ok(())
     }
 
     // With paging off address-space numbers must be off too.
-    fn judge_unpaged(self) -> Service
+    fn judge_unpaged(self) -> Result<(), Unserved>
         ensures { result ≡ spec.judged_unpaged self }
     {
         if self.pcide() {
-            return Service::NotServed(Unserved::Spaces);
+            return Err(Unserved::Spaces);
         }
-        Service::Served
+        Ok(())
     }
 
     // Whether space numbers are on now and were off before, while CR3 bits 11:0 are not 0.
     fn turns_on_numbered(self, before: Settings) -> bool
         ensures { result ≡ spec.turns_on_numbered before self }
     {
-        let was = before.pcide();
-        let is = self.pcide();
-        (!was & is) & !(self.cr3 % 4096 == 0)
+        !before.pcide() && self.pcide() && self.cr3 % 4096 != 0
     }
 
     // What is answered of the settings that a load would leave, from those before it.
-    pub fn judge_from(self, before: Settings) -> Service
+    pub fn judge_from(self, before: Settings) -> Result<(), Unserved>
         ensures { result ≡ spec.judged_from before self }
     {
-        let service = self.judge();
-        if !self.turns_on_numbered(before) {
-            return service;
+        self.judge()?;
+        if self.turns_on_numbered(before) {
+            return Err(Unserved::Spaces);
         }
-        match service {
-            Service::Served => Service::NotServed(Unserved::Spaces),
-            Service::NotServed(why) => Service::NotServed(why),
-        }
+        Ok(())
     }
 }

@@ -1,4 +1,4 @@
-// The same program, run on a deck of the second program's: its cards in stdin, its lines in stdout.
+// The deck program once more, since the gate runs a program on one input alone: a deck of the second program's in stdin, its lines in stdout.
 #![tactic(auto)]
 
 use std::io;

@@ -1,4 +1,4 @@
-// A loop of remembered translations that keeps the machine in a local, for the speed command alone.
+// A loop of remembered translations, for the speed command alone: the steps of Machine::translate, over a cache in a local.
 #![tactic(auto)]
 
 use address::VirtAddr;
@@ -6,26 +6,20 @@ use cache::Cache;
 use machine::Probed;
 use machine::translate::{fill, page_drop, probe};
 use settings::Settings;
-use walk::translate::{answer, numbers};
-use walk::walk::walk;
-use walk::{Answer, Walked};
-use word::Loaded;
+use walk::{Answer, Numbers, Question};
 use word::bytes::load64;
 
 // The value of an answer, put to a sum so that no call is left out.
 fn sum(before: u64, answer: Answer) -> u64 {
-    before ^ numbers(answer).value
+    before ^ Numbers::from(answer).value
 }
 
 // The address at a place of the list.
 fn address_at(addresses: &[u8], at: usize) -> VirtAddr {
-    match load64(addresses, at) {
-        Loaded::Value(address) => VirtAddr(address),
-        Loaded::Outside => VirtAddr(0),
-    }
+    VirtAddr(load64(addresses, at).unwrap_or(0))
 }
 
-// Translates the addresses of a list of 64, one after the other and over again, on one machine; gives the values' sum.
+// Translates the addresses of a list of 64, one after the other and over again as the loop that it is timed beside does, on one machine; gives the values' sum.
 #[unsafe(no_mangle)]
 pub extern "C" fn timing_translations(
     cr0: u64,
@@ -53,24 +47,18 @@ pub extern "C" fn timing_translations(
         let index = Cache::set_of(address.tag()) as usize;
         let set = cache.sets[index];
         match probe(settings, set, address, access, mode) {
-            Probed::Answered(found) => {
-                values = sum(values, found);
-            }
+            Probed::Answered(answer) => values = sum(values, answer),
             Probed::Walk(way) => {
-                let walked = walk(memory, settings, address, way);
-                values = sum(values, answer(settings, address, way, walked));
+                let question = Question {
+                    settings,
+                    address,
+                    way,
+                };
+                let walked = question.walk(memory);
+                values = sum(values, question.answer(walked));
                 match walked {
-                    Walked::Mapped(found) => {
-                        let own = cache.sets[index];
-                        let filled = fill(settings, own, address, way, found);
-                        cache.sets[index] = filled;
-                    }
-                    Walked::Refused(_, _) => {
-                        cache = cache.drop(page_drop(settings, address));
-                    }
-                    Walked::Outside(_, _, _) => {
-                        cache = cache.drop(page_drop(settings, address));
-                    }
+                    Ok(found) => cache.sets[index] = fill(question, cache.sets[index], found),
+                    Err(_) => cache = cache.drop(page_drop(settings, address)),
                 }
             }
         }

@@ -5,7 +5,6 @@ use std::io;
 
 mod addresses;
 mod entries;
-mod print;
 mod records;
 mod walks;
 

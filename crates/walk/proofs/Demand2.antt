@@ -14,7 +14,8 @@ use Rattle.walk.specs.declared.Access.{Access}
 use Rattle.walk.specs.declared.Access.TheVariants.{Read, Write, Fetch}
 use Rattle.walk.specs.declared.Way.{Way}
 use Rattle.walk.specs.declared.Asked.TheVariants as Asked
-use Rattle.walk.specs.declared.Answer.{Answer}
+use Rattle.walk.specs.declared.Refusal.{Refusal}
+use Rattle.walk.specs.Answers.{Answer}
 use Rattle.walk.specs.Access.{known, way_of, needed, writes}
 use Rattle.walk.specs.Demand2.{first, stops, lacks, all_inside, access_number, mode_number, Gives, Refuses, Marks, Counts, Demand2, Walks}
 use Rattle.walk.specs.Path.{Path, End, Entry, page, entries, end_of}
@@ -25,6 +26,7 @@ use Rattle.walk.proofs.Codes.{missing_code, reserved_code, rights_code}
 use Rattle.walk.proofs.Marking.{marks_bit, due_access}
 use Rattle.walk.proofs.Sound.{Sound, SoundEnd, sound, stopping, first_stop, at_end, at_most, at_least, last_read, follows}
 use Rattle.walk.proofs.Verdict as verdict
+use Rattle.std.specs.Prelude.{Ok, Err}
 
 module _ (s : Settings) (va : VirtAddr) (a : Way) (m : List ℕ) where
   -- the path, its end, and the first entry that lacks a right
@@ -60,8 +62,8 @@ module _ (s : Settings) (va : VirtAddr) (a : Way) (m : List ℕ) where
   }
 
   -- a fault at an entry, where the code is another's
-  fault : (e : Entry) {c d : ℕ} → c ≡ d → Answer.Fault c e.level (length (entries p)) ≡ Answer.Fault d e.level (length (entries p))
-  fault e same = ap (λ (c : ℕ). Answer.Fault c e.level (length (entries p))) same
+  fault : (e : Entry) {c d : ℕ} → c ≡ d → ◌≡◌ {A = Answer} (Err (Refusal.Fault c e.level (length (entries p)))) (Err (Refusal.Fault d e.level (length (entries p))))
+  fault e same = ap (λ (c : ℕ). Err (Refusal.Fault c e.level (length (entries p)))) same
 
   refuses : Refuses s va a m
   refuses = record {
@@ -109,9 +111,9 @@ module _ (s : Settings) (va : VirtAddr) (a : Way) (m : List ℕ) where
 
   counts : Counts s va a m
   counts = record {
-    of_address = λ t done. within t.reads (counted (Answer.Done t) done) (verdict.only s va a m p x o stop refl told t done).0;
-    of_fault = λ code l n fault. within n (counted (Answer.Fault code l n) fault) (verdict.fault_inside s va a m p x o told code l n fault);
-    of_outside = λ at l n out. fewer n (counted (Answer.Outside at l n) out) (verdict.outside_only s va a m p x o told at l n out);
+    of_address = λ t done. within t.reads (counted (Ok t) done) (verdict.only s va a m p x o stop refl told t done).0;
+    of_fault = λ code l n fault. within n (counted (Err (Refusal.Fault code l n)) fault) (verdict.fault_inside s va a m p x o told code l n fault);
+    of_outside = λ at l n out. fewer n (counted (Err (Refusal.Outside at l n)) out) (verdict.outside_only s va a m p x o told at l n out);
   }
 
 pub demand2 : (s : Settings) (address : VirtAddr) (a : Way) (memory : List ℕ) → Demand2 s address a memory
@@ -143,5 +145,5 @@ way_of_lem Fetch false = refl
 pub walks : Walks
 unfolding translated translated_memory
 walks s address a memory on served canonical =
-    let tested : asked s address (access_number a.access) (mode_number a.user) ≡ Asked.On a = rw (known_way a.access a.user, served_is s served, on, canonical) (ap Asked.On (way_of_lem a.access a.user)) in
+    let tested : asked s address (access_number a.access) (mode_number a.user) ≡ Ok (Asked.On a) = rw (known_way a.access a.user, served_is s served, on, canonical) (ap (λ (w : Way). Ok (Asked.On w)) (way_of_lem a.access a.user)) in
     (ap (fresh s address memory) tested, ap (fresh_memory s address memory) tested)

@@ -1,19 +1,15 @@
 -- The recursion's laws: one for each way that a level ends, in plain variables.
-use Prim.Native.Nat.{ℕ, suc, ◌+◌, ◌-◌, ◌*◌, ◌/◌, ◌≤◌, ◌<◌, ◌^◌}
-use native.Mathlib.Nat.{add-zero, mod-lt}
+use Prim.Native.Nat.{ℕ, suc, ◌+◌, ◌-◌, ◌*◌, ◌≤◌}
+use native.Mathlib.Nat.{add-zero}
 use native.Mathlib.Omega.{arith}
 use mathlib.Core.Path.{◌≡◌, refl, ap, ap₂, sym, ◌∙◌}
 use mathlib.Core.Bool.{Bool, true, false, not, ◌&&◌, cond}
 use mathlib.Core.List.{List}
 use lib.Bits.{bit_and}
-use lib.Dec.{lit<}
 use Rattle.word.specs.Bits.{bit}
-use Rattle.word.specs.Bytes.{load, inside, loaded}
-use Rattle.word.specs.declared.Loaded.{Loaded}
+use Rattle.word.specs.Bytes.{load, inside}
 use Rattle.address.specs.declared.PhysAddr.{PhysAddr}
-use Rattle.address.specs.declared.VirtAddr.{VirtAddr}
-use Rattle.address.specs.Address.{index, entry_address}
-use Rattle.address.proofs.Laws.{entry_plain}
+use Rattle.address.specs.Address.{index}
 use Rattle.entry.specs.declared.Says.{Says}
 use Rattle.entry.specs.Mark.{mark}
 use Rattle.entry.specs.Rights.{number, own, allow}
@@ -21,11 +17,15 @@ use Rattle.entry.proofs.Meeting.{meet, and_assoc}
 use Rattle.walk.specs.declared.Cause.{Cause}
 use Rattle.walk.specs.declared.Cause.TheVariants.{Missing, Reserved, Rights}
 use Rattle.walk.specs.declared.Mapping.{Mapping}
-use Rattle.walk.specs.declared.Walked.{Walked}
-use Rattle.walk.specs.declared.Walked.TheVariants.{Mapped, Refused, Outside}
-use Rattle.walk.specs.Descent.{ended_below, walked_below, at_page, higher}
+use Rattle.walk.specs.Answers.{Walked}
+use Rattle.walk.specs.declared.Unmapped.{Unmapped}
+use Rattle.walk.specs.declared.Unmapped.TheVariants.{Refused, Outside}
+use Rattle.walk.specs.declared.descend.Sought.{Sought}
+use Rattle.entry.specs.Masks.{under}
+use Rattle.walk.specs.Descent.{ended_below, walked_below, at_page, higher, path_below, entry_at, IsEnd, IsDescent}
 use Rattle.walk.specs.Path.{Path, End, Entry, ends, next, outside, missing, reserved, page, onward, level, path, entries, end_of, reads, rights, report, every, marks}
 use Rattle.walk.specs.Walk.{after}
+use Rattle.std.specs.Prelude.{Ok, Err}
 
 -- a case split that keeps its equation
 pub by_cases {ℓ} : {X : Type ℓ} (b : Bool) → (b ≡ true → X) → (b ≡ false → X) → X
@@ -39,31 +39,9 @@ and_true false = refl
 ap₃ {ℓ} : {A B : Type ℓ} (f : A → A → A → B) {a b c d e g : A} → a ≡ b → c ≡ d → e ≡ g → f a c e ≡ f b d g
 ap₃ f p q r = λ i. f (p i) (q i) (r i)
 
--- what a load that gave nothing says
-pub loaded_outside : (m : List ℕ) (at : ℕ) → loaded m at ≡ Loaded.Outside → inside m at ≡ false
-loaded_outside m at h = by_cases (inside m at) (λ e. cc) (λ e. e)
-
--- what a load that gave a number says
-pub loaded_value : (m : List ℕ) (at v : ℕ) → loaded m at ≡ Loaded.Value v → (inside m at ≡ true) × (load 8 m at ≡ v)
-loaded_value m at v h = by_cases (inside m at) (λ e. (e, cc)) (λ e. (cc, cc))
-
-module _ (tell : ℕ → ℕ → Says) (m : List ℕ) (va : VirtAddr) (n l base : ℕ) (is : n ≡ suc l) where
-  -- the address of the entry at this level
-  abbrev pub at : ℕ
-  at = base + 8 * index va n
-
-  unroll : path tell m va n base ≡ level tell m n at (λ (table : ℕ). path tell m va l table)
-  unfolding path
-  unroll =
-      ap (λ (k : ℕ). path tell m va k base) is
-      ∙ ap (λ (k : ℕ). level tell m k (base + 8 * index va k) (λ (table : ℕ). path tell m va l table)) (sym is)
-
-  pub path_outside : loaded m at ≡ Loaded.Outside → path tell m va n base ≡ ends (outside n at)
-  path_outside h = unroll ∙ rw (loaded_outside m at h)
-
-  pub path_value : (v : ℕ) → loaded m at ≡ Loaded.Value v
-      → path tell m va n base ≡ onward (tell n v) (record { level = n; address = at; value = v }) (λ (table : ℕ). path tell m va l table)
-  path_value v h = unroll ∙ rw ((loaded_value m at v h).0, (loaded_value m at v h).1)
+-- a level from 1 on, as a successor
+whole : (n : ℕ) → 1 ≤ n → n ≡ suc (n - 1)
+whole n h = omega arith
 
 -- the rights of a path from an entry on: that entry's, met with the rest's
 pub rights_next : (e : Entry) (p : Path) → rights (next e p) ≡ bit_and (own e.value) (rights p)
@@ -79,9 +57,8 @@ rights_last e base = ap₃ number (and_true (bit e.value 1)) (and_true (bit e.va
 
 -- an answer on its way back past an entry
 abbrev pub lift : ℕ → ℕ → ℕ → Walked → Walked
-lift need own n (Mapped found) = Mapped found
-lift need own n (Refused cause k) = Refused (higher need own n cause) k
-lift need own n (Outside a k r) = Outside a k r
+lift need own n (Ok found) = Ok found
+lift need own n (Err why) = Err (higher need own n why)
 
 lift_cond : (need own n : ℕ) (b : Bool) (x y : Walked) → lift need own n (cond b x y) ≡ cond b (lift need own n x) (lift need own n y)
 lift_cond need own n true x y = refl
@@ -96,26 +73,26 @@ end_next : (need held n l : ℕ) (e : Entry) (p : Path) → n ≡ suc l → n �
     → ended_below need held (4 - n) (next e p) x
     ≡ lift need (own e.value) n (ended_below need (bit_and held (own e.value)) (4 - l) p x)
 unfolding ended_below entries report
-end_next need held n l e p is most here (outside k a) = ap (Outside (record { 0 = a }) k) (count_next n l (reads p) is most)
-end_next need held n l e p is most here (missing f) = ap (Refused (Missing f.level)) (count_next n l (reads p) is most)
-end_next need held n l e p is most here (reserved f) = ap (Refused (Reserved f.level)) (count_next n l (reads p) is most)
+end_next need held n l e p is most here (outside k a) = ap (λ (c : ℕ). Err (Outside (record { 0 = a }) k c)) (count_next n l (reads p) is most)
+end_next need held n l e p is most here (missing f) = ap (λ (c : ℕ). Err (Refused (Missing f.level) c)) (count_next n l (reads p) is most)
+end_next need held n l e p is most here (reserved f) = ap (λ (c : ℕ). Err (Refused (Reserved f.level) c)) (count_next n l (reads p) is most)
 end_next need held n l e p is most here (page f b) =
     ap₃ last (ap (bit_and held) (rights_next e p) ∙ sym (and_assoc held (own e.value) (rights p))) (count_next n l (reads p) is most) here
     ∙ sym (lift_cond need (own e.value) n (allow need (bit_and (bit_and held (own e.value)) (rights p)))
-    (Mapped (record {
+    (Ok (record {
       base = record { 0 = b };
       last = f.value;
       rights = bit_and (bit_and held (own e.value)) (rights p);
       size = f.level;
       reads = (4 - l) + reads p;
     }))
-    (Refused (Rights (report need (entries p))) ((4 - l) + reads p)))
+    (Err (Refused (Rights (report need (entries p))) ((4 - l) + reads p))))
   where
     last : ℕ → ℕ → ℕ → Walked
     last met count lacking =
         cond (allow need met)
-        (Mapped (record { base = record { 0 = b }; last = f.value; rights = met; size = f.level; reads = count }))
-        (Refused (Rights (cond (allow need (own e.value)) (report need (entries p)) lacking)) count)
+        (Ok (record { base = record { 0 = b }; last = f.value; rights = met; size = f.level; reads = count }))
+        (Err (Refused (Rights (cond (allow need (own e.value)) (report need (entries p)) lacking)) count))
 
 -- the answer from an entry on is the answer of the rest, on its way back
 pub below_next : (need held n l : ℕ) (e : Entry) (p : Path) → n ≡ suc l → n ≤ 4 → e.level ≡ n
@@ -129,8 +106,8 @@ pub below_page : (need held n : ℕ) (v at : ℕ) (b : PhysAddr) → n ≤ 4
 unfolding ended_below end_of entries report
 below_page need held n v at b most =
     λ i. cond (allow need (bit_and held (lone i)))
-    (Mapped (record { base = b; last = v; rights = bit_and held (lone i); size = n; reads = count i }))
-    (Refused (Rights (cond (allow need (own v)) 0 n)) (count i))
+    (Ok (record { base = b; last = v; rights = bit_and held (lone i); size = n; reads = count i }))
+    (Err (Refused (Rights (cond (allow need (own v)) 0 n)) (count i)))
   where
     lone : own v ≡ rights (ends (page (record { level = n; address = at; value = v }) b.0))
     lone = sym (rights_last (record { level = n; address = at; value = v }) b.0)
@@ -138,125 +115,111 @@ below_page need held n v at b most =
     count : 4 + 1 - n ≡ (4 - n) + 1
     count = omega arith
 
+-- a walk that finds no page leaves memory as it was
+pub after_err : (write : Bool) (p : Path) (m : List ℕ) (why : Unmapped) → after write p m (Err why) ≡ m
+unfolding after
+after_err write p m (Refused cause n) = refl
+after_err write p m (Outside at l n) = refl
+
 after_cond : (write : Bool) (p : Path) (m : List ℕ) (ok : Bool) (f : Mapping) (cause : Cause) (k : ℕ)
-    → after write p m (cond ok (Mapped f) (Refused cause k)) ≡ cond ok (marks write p m) m
+    → after write p m (cond ok (Ok f) (Err (Refused cause k))) ≡ cond ok (marks write p m) m
 unfolding after
 after_cond write p m true f cause k = refl
 after_cond write p m false f cause k = refl
 
-module _ (tell : ℕ → ℕ → Says) (m : List ℕ) (va : VirtAddr) (n l : ℕ) (b : PhysAddr) (is : n ≡ suc l) (most : n ≤ 4)
-    (fits : b.0 + 4096 ≤ 2 ^ 64) (i : ℕ) (the-index : i ≡ index va n) (x : Loaded) (the-load : x ≡ loaded m (b.0 + 8 * i))
-    (a : PhysAddr) (the-address : a ≡ entry_address b i) (need held : ℕ) (write : Bool) where
+module _ (s : Sought) (held : ℕ) (n : ℕ) (from : 1 ≤ n) (most : n ≤ 4) (b : PhysAddr) (m : List ℕ) where
   -- the path from here
   abbrev here : Path
-  here = path tell m va n b.0
+  here = path_below s m n b
 
-  -- the entry's address and value
+  -- the entry's address, and the entry
   abbrev spot : ℕ
-  spot = b.0 + 8 * index va n
+  spot = b.0 + 8 * index s.address n
 
   abbrev this : ℕ → Entry
   this v = record { level = n; address = spot; value = v }
 
-  small : index va n < 512
-  small = mod-lt (va.0 / 2 ^ (3 + 9 * n)) (lit< tt)
+  unroll : here ≡ level (under s.forbidden) m n spot (λ (table : ℕ). path (under s.forbidden) m s.address (n - 1) table)
+  unfolding path
+  unroll =
+      ap (λ (k : ℕ). path (under s.forbidden) m s.address k b.0) (whole n from)
+      ∙ ap (λ (k : ℕ). level (under s.forbidden) m k (b.0 + 8 * index s.address k) (λ (table : ℕ). path (under s.forbidden) m s.address (n - 1) table))
+      (sym (whole n from))
 
-  where_it_is : a ≡ record { 0 = spot }
-  where_it_is = the-address ∙ ap (entry_address b) the-index ∙ entry_plain b (index va n) (omega (arith, small))
-
-  found : x ≡ loaded m spot
-  found = the-load ∙ ap (λ (k : ℕ). loaded m (b.0 + 8 * k)) the-index
-
-  pub ret_outside : x ≡ Loaded.Outside
-      → (Outside a n (4 - n) ≡ walked_below need held (4 - n) here) × (m ≡ after write here m (Outside a n (4 - n)))
+  pub ret_outside : (why : Unmapped) → entry_at m s.address n b ≡ Err why → (r : Walked) → r ≡ Err why → IsDescent s held n b m r m
   unfolding after ended_below end_of entries
-  ret_outside h = (
-    ap (λ (z : PhysAddr). Outside z n (4 - n)) where_it_is
-        ∙ rw (path_outside tell m va n l b.0 is (sym found ∙ h), add-zero (4 - n)),
-    refl,
-  )
+  ret_outside why h r is_err =
+      by_cases (inside m spot) (λ e. cc)
+      (λ e. let same : why ≡ Outside (record { 0 = spot }) n (4 - n) = cc in (rw (is_err, unroll, e, add-zero (4 - n), same), rw is_err (sym (after_err s.write here m why))))
 
-  pub ret_missing : (v : ℕ) → x ≡ Loaded.Value v → tell n v ≡ Says.Missing
-      → (Refused (Missing n) (4 + 1 - n) ≡ walked_below need held (4 - n) here) × (m ≡ after write here m (Refused (Missing n) (4 + 1 - n)))
-  unfolding after ended_below end_of entries
-  ret_missing v h says = (rw (path_value tell m va n l b.0 is v (sym found ∙ h), says) (ap (Refused (Missing n)) (omega arith)), refl)
+  -- what was read
+  module _ (at : PhysAddr) (v : ℕ) (h : entry_at m s.address n b ≡ Ok (at, v)) where
+    read : (inside m spot ≡ true) × (load 8 m spot ≡ v) × (at ≡ record { 0 = spot })
+    read =
+        by_cases (inside m spot)
+        (λ e. let same : ◌≡◌ {A = PhysAddr × ℕ} (record { 0 = spot }, load 8 m spot) (at, v) = cc in
+        (e, ap (λ (z : PhysAddr × ℕ). z.1) same, sym (ap (λ (z : PhysAddr × ℕ). z.0) same)))
+        (λ e. (cc, cc, cc))
 
-  pub ret_reserved : (v : ℕ) → x ≡ Loaded.Value v → tell n v ≡ Says.Reserved
-      → (Refused (Reserved n) (4 + 1 - n) ≡ walked_below need held (4 - n) here) × (m ≡ after write here m (Refused (Reserved n) (4 + 1 - n)))
-  unfolding after ended_below end_of entries
-  ret_reserved v h says = (rw (path_value tell m va n l b.0 is v (sym found ∙ h), says) (ap (Refused (Reserved n)) (omega arith)), refl)
+    found : here ≡ onward (under s.forbidden n v) (this v) (λ (table : ℕ). path (under s.forbidden) m s.address (n - 1) table)
+    found = unroll ∙ rw (read.0, read.1)
 
-  pub ret_page : (v : ℕ) → x ≡ Loaded.Value v → (p : PhysAddr) → tell n v ≡ Says.Page p → (r : Walked) → r ≡ at_page need held n v p
-      → (m' : List ℕ) → m' ≡ cond (allow need (bit_and held (own v))) (mark write m a.0) m
-      → (r ≡ walked_below need held (4 - n) here) × (m' ≡ after write here m r)
-  unfolding after marks
-  ret_page v h p says r the-answer m' the-memory = (
-    the-answer ∙ below_page need held n v spot p most ∙ ap (walked_below need held (4 - n)) (sym on),
-    the-memory
-        ∙ ap (λ (z : PhysAddr). cond (allow need (bit_and held (own v))) (mark write m z.0) m) where_it_is
-        ∙ ap (λ (z : Path). cond (allow need (bit_and held (own v))) (marks write z m) m) (sym on)
-        ∙ sym (after_cond write here m (allow need (bit_and held (own v)))
-        (record { base = p; last = v; rights = bit_and held (own v); size = n; reads = 4 + 1 - n })
-        (Rights (cond (allow need (own v)) 0 n)) (4 + 1 - n))
-        ∙ ap (after write here m) (sym the-answer),
-  )
-    where
-      on : here ≡ ends (page (this v) p.0)
-      on =
-          path_value tell m va n l b.0 is v (sym found ∙ h)
-          ∙ ap (λ (z : Says). onward z (this v) (λ (table : ℕ). path tell m va l table)) says
+    pub ret_missing : under s.forbidden n v ≡ Says.Missing
+        → IsDescent s held n b m (Err (Refused (Missing n) (4 - n + 1))) m
+    unfolding after ended_below end_of entries
+    ret_missing says = (rw (found, says), refl)
 
-  -- the path goes on from a table
-  onward_table : (v : ℕ) → x ≡ Loaded.Value v → (t : PhysAddr) → tell n v ≡ Says.Table t → here ≡ next (this v) (path tell m va l t.0)
-  onward_table v h t says = path_value tell m va n l b.0 is v (sym found ∙ h) ∙ ap (λ (z : Says). onward z (this v) (λ (table : ℕ). path tell m va l table)) says
+    pub ret_reserved : under s.forbidden n v ≡ Says.Reserved
+        → IsDescent s held n b m (Err (Refused (Reserved n) (4 - n + 1))) m
+    unfolding after ended_below end_of entries
+    ret_reserved says = (rw (found, says), refl)
 
-  -- what the rest answered, on its way back
-  module _ (v : ℕ) (h : x ≡ Loaded.Value v) (t : PhysAddr) (says : tell n v ≡ Says.Table t) (o : ℕ) (the_own : o ≡ own v)
-      (w : Walked) (the-answer : w ≡ walked_below need (bit_and held o) (4 - l) (path tell m va l t.0))
-      (m' : List ℕ) (the-memory : m' ≡ after write (path tell m va l t.0) m w) where
-    back : walked_below need held (4 - n) here ≡ lift need o n w
-    back =
-        ap (walked_below need held (4 - n)) (onward_table v h t says)
-        ∙ below_next need held n l (this v) (path tell m va l t.0) is most refl
-        ∙ ap (λ (z : ℕ). lift need z n (walked_below need (bit_and held z) (4 - l) (path tell m va l t.0))) (sym the_own)
-        ∙ ap (lift need o n) (sym the-answer)
-
-    pub ret_mapped : (f : Mapping) → w ≡ Mapped f → (m'' : List ℕ) → m'' ≡ mark false m' a.0
-        → (Mapped f ≡ walked_below need held (4 - n) here) × (m'' ≡ after write here m (Mapped f))
+    pub ret_page : (p : PhysAddr) → under s.forbidden n v ≡ Says.Page p → (r : Walked) (m' : List ℕ) → IsEnd s held n v at p m r m'
+        → IsDescent s held n b m r m'
     unfolding after marks
-    ret_mapped f is_mapped m'' the-mark = (
-      sym (back ∙ ap (lift need o n) is_mapped),
-      the-mark
-          ∙ ap₂ (mark false) (the-memory ∙ ap (after write (path tell m va l t.0) m) is_mapped) (ap (λ (z : PhysAddr). z.0) where_it_is)
-          ∙ ap (λ (z : Path). marks write z m) (sym (onward_table v h t says)),
+    ret_page p says r m' ended = (
+      ended.0 ∙ below_page s.needed held n v spot p most ∙ ap (walked_below s.needed held (4 - n)) (sym on),
+      ended.1
+          ∙ ap (λ (z : PhysAddr). cond (allow s.needed (bit_and held (own v))) (mark s.write m z.0) m) read.2
+          ∙ ap (λ (z : Path). cond (allow s.needed (bit_and held (own v))) (marks s.write z m) m) (sym on)
+          ∙ sym (after_cond s.write here m (allow s.needed (bit_and held (own v)))
+          (record { base = p; last = v; rights = bit_and held (own v); size = n; reads = 4 + 1 - n })
+          (Rights (cond (allow s.needed (own v)) 0 n)) (4 + 1 - n))
+          ∙ ap (after s.write here m) (sym ended.0),
     )
+      where
+        on : here ≡ ends (page (this v) p.0)
+        on = found ∙ ap (λ (z : Says). onward z (this v) (λ (table : ℕ). path (under s.forbidden) m s.address (n - 1) table)) says
 
-    pub ret_refused : (cause : Cause) (k : ℕ) → w ≡ Refused cause k → (cause' : Cause) → cause' ≡ higher need o n cause
-        → (Refused cause' k ≡ walked_below need held (4 - n) here) × (m' ≡ after write here m (Refused cause' k))
-    unfolding after
-    ret_refused cause k is-refused cause' the-cause = (
-      ap (λ (z : Cause). Refused z k) the-cause ∙ sym (back ∙ ap (lift need o n) is-refused),
-      the-memory ∙ ap (after write (path tell m va l t.0) m) is-refused,
-    )
+    -- what the rest answered, on its way back
+    module _ (t : PhysAddr) (says : under s.forbidden n v ≡ Says.Table t) (o : ℕ) (the_own : o ≡ own v) (w : Walked) (m' : List ℕ)
+        (below : IsDescent s (bit_and held o) (n - 1) t m w m') where
+      on : here ≡ next (this v) (path_below s m (n - 1) t)
+      on = found ∙ ap (λ (z : Says). onward z (this v) (λ (table : ℕ). path (under s.forbidden) m s.address (n - 1) table)) says
 
-    pub ret_below : (z : PhysAddr) (k r : ℕ) → w ≡ Outside z k r
-        → (Outside z k r ≡ walked_below need held (4 - n) here) × (m' ≡ after write here m (Outside z k r))
-    unfolding after
-    ret_below z k r is-outside =
-        (sym (back ∙ ap (lift need o n) is-outside), the-memory ∙ ap (after write (path tell m va l t.0) m) is-outside)
+      back : walked_below s.needed held (4 - n) here ≡ lift s.needed o n w
+      back =
+          ap (walked_below s.needed held (4 - n)) on
+          ∙ below_next s.needed held n (n - 1) (this v) (path_below s m (n - 1) t) (whole n from) most refl
+          ∙ ap (λ (z : ℕ). lift s.needed z n (walked_below s.needed (bit_and held z) (4 - (n - 1)) (path_below s m (n - 1) t))) (sym the_own)
+          ∙ ap (lift s.needed o n) (sym below.0)
 
--- the three answers at a page
-module _ (need held n v o : ℕ) (b : PhysAddr) (the_own : o ≡ own v) (m : List ℕ) (at : ℕ) (write ok alone : Bool) (m' : List ℕ) where
-  pub end_mapped : ok ≡ allow need (bit_and held o) → ok ≡ true → m' ≡ mark write m at
-      → (Mapped (record { base = b; last = v; rights = bit_and held o; size = n; reads = 4 + 1 - n }) ≡ at_page need held n v b)
-      × (m' ≡ cond (allow need (bit_and held (own v))) (mark write m at) m)
-  end_mapped is held_All the-mark =
-      let allowed : allow need (bit_and held (own v)) ≡ true = ap (λ (z : ℕ). allow need (bit_and held z)) (sym the_own) ∙ sym is ∙ held_All in
-      rw (the_own, allowed) (refl, the-mark)
+      pub ret_mapped : (f : Mapping) → w ≡ Ok f → (m'' : List ℕ) → m'' ≡ mark false m' at.0 → IsDescent s held n b m (Ok f) m''
+      unfolding after marks
+      ret_mapped f is_mapped m'' the-mark = (
+        sym (back ∙ ap (lift s.needed o n) is_mapped),
+        the-mark
+            ∙ ap₂ (mark false) (below.1 ∙ ap (after s.write (path_below s m (n - 1) t) m) is_mapped) (ap (λ (z : PhysAddr). z.0) read.2)
+            ∙ ap (λ (z : Path). marks s.write z m) (sym on),
+      )
 
-  pub end_refused : ok ≡ allow need (bit_and held o) → ok ≡ false → alone ≡ allow need o → (l : ℕ) → l ≡ cond alone 0 n
-      → (Refused (Rights l) (4 + 1 - n) ≡ at_page need held n v b) × (m ≡ cond (allow need (bit_and held (own v))) (mark write m at) m)
-  end_refused is not-all the-alone l the-level =
-      let allowed : allow need (bit_and held (own v)) ≡ false = ap (λ (z : ℕ). allow need (bit_and held z)) (sym the_own) ∙ sym is ∙ not-all in
-      let own_alone : alone ≡ allow need (own v) = the-alone ∙ ap (allow need) the_own in
-      rw (allowed, ← own_alone) (ap (λ (z : ℕ). Refused (Rights z) (4 + 1 - n)) the-level, refl)
+      pub ret_unmapped : (why : Unmapped) → w ≡ Err why → (higher_why : Unmapped) → higher_why ≡ higher s.needed o n why
+          → IsDescent s held n b m (Err higher_why) m'
+      unfolding after
+      ret_unmapped why is_unmapped higher_why same = (
+        ap (λ (z : Unmapped). Err z) same ∙ sym (back ∙ ap (lift s.needed o n) is_unmapped),
+        below.1
+            ∙ ap (after s.write (path_below s m (n - 1) t) m) is_unmapped
+            ∙ after_err s.write (path_below s m (n - 1) t) m why
+            ∙ sym (after_err s.write here m higher_why),
+      )

@@ -1,5 +1,5 @@
 -- Demand 2 about the rules: what a walk answers, exactly, and what memory is afterwards, bit by bit; rights and codes from the paper's bits.
-use Rattle.std.specs.Prelude.{ℕ, zero, suc, ◌+◌, ◌*◌, ◌/◌, ◌^◌, ◌≤◌, ◌<◌, ◌≡◌, Bool, true, false, not, ◌&&◌, ◌||◌, cond, List, [], ◌∷◌, eqb, length, get_or}
+use Rattle.std.specs.Prelude.{ℕ, zero, suc, ◌+◌, ◌*◌, ◌/◌, ◌^◌, ◌≤◌, ◌<◌, ◌≡◌, Bool, true, false, not, ◌&&◌, ◌||◌, cond, List, [], ◌∷◌, eqb, length, get_or, Ok, Err}
 use Rattle.std.proofs.Math.Option.{Option, some, none}
 use Rattle.word.specs.Bits.{bit}
 use Rattle.word.specs.Bytes.{inside, load}
@@ -13,7 +13,8 @@ use Rattle.walk.specs.declared.Access.{Access}
 use Rattle.walk.specs.declared.Access.TheVariants.{Read, Write, Fetch}
 use Rattle.walk.specs.declared.Way.{Way}
 use Rattle.walk.specs.declared.Translation.{Translation}
-use Rattle.walk.specs.declared.Answer.{Answer}
+use Rattle.walk.specs.declared.Refusal.{Refusal}
+use Rattle.walk.specs.Answers.{Answer}
 use Rattle.walk.specs.Path.{Entry, End, outside, missing, page, entries, end_of}
 use Rattle.walk.specs.Path as Path
 use Rattle.walk.specs.Translate.{answered, translated, translated_memory}
@@ -121,9 +122,9 @@ pub record Gives (s : Settings) (address : VirtAddr) (a : Way) (memory : List �
       × (last (read s address memory) ≡ some e)
       × ((page_base e.level e.value).0 < 2 ^ 52)
       × (offset address e.level < 2 ^ page_bits e.level)
-      × (answer s address a memory ≡ Answer.Done (given e address (length (read s address memory))))
+      × (answer s address a memory ≡ Ok (given e address (length (read s address memory))))
   -- and an address is given only there; this shuts out one that "always gives one address"
-  pub only_there : (t : Translation) → answer s address a memory ≡ Answer.Done t
+  pub only_there : (t : Translation) → answer s address a memory ≡ Ok t
       → (all_inside (end s address memory) ≡ true)
       × (first (stops s) (read s address memory) ≡ none)
       × (first (lacks s a) (read s address memory) ≡ none)
@@ -134,20 +135,20 @@ pub record Refuses (s : Settings) (address : VirtAddr) (a : Way) (memory : List 
   pub at_outside : (l at : ℕ) → end s address memory ≡ outside l at
       → (inside memory at ≡ false)
       × (first (stops s) (read s address memory) ≡ none)
-      × (answer s address a memory ≡ Answer.Outside (record { 0 = at }) l (length (read s address memory)))
+      × (answer s address a memory ≡ Err (Refusal.Outside (record { 0 = at }) l (length (read s address memory))))
   -- the first entry that stops is the last one read; where its P is clear, "P of the code 0"
   pub at_missing : (e : Entry) → first (stops s) (read s address memory) ≡ some e → bit e.value 0 ≡ false
       → (last (read s address memory) ≡ some e)
-      × (answer s address a memory ≡ Answer.Fault (way_code s a) e.level (length (read s address memory)))
+      × (answer s address a memory ≡ Err (Refusal.Fault (way_code s a) e.level (length (read s address memory))))
   -- where its P is set, a reserved bit is: P, bit 0, and reserved, bit 3, of the code are 1
   pub at_reserved : (e : Entry) → first (stops s) (read s address memory) ≡ some e → bit e.value 0 ≡ true
       → (last (read s address memory) ≡ some e)
-      × (answer s address a memory ≡ Answer.Fault (1 + 8 + way_code s a) e.level (length (read s address memory)))
+      × (answer s address a memory ≡ Err (Refusal.Fault (1 + 8 + way_code s a) e.level (length (read s address memory))))
   -- rights, judged only after the last entry: P of the code is 1; the level of the first entry that lacks one, so of the highest
   pub at_rights : all_inside (end s address memory) ≡ true
       → first (stops s) (read s address memory) ≡ none
       → (e : Entry) → first (lacks s a) (read s address memory) ≡ some e
-      → answer s address a memory ≡ Answer.Fault (1 + way_code s a) e.level (length (read s address memory))
+      → answer s address a memory ≡ Err (Refusal.Fault (1 + way_code s a) e.level (length (read s address memory)))
 
 -- some entry has its lowest byte at an address
 unfoldable pub some_at : ℕ → List Entry → Bool
@@ -168,21 +169,21 @@ due Fetch es i k = eqb k 5 && some_at i es
 -- (c) "A success sets the Accessed and Dirty bits due and changes no other bit of guest memory."
 pub record Marks (s : Settings) (address : VirtAddr) (a : Way) (memory : List ℕ) : Type 0 where
   -- after a success a bit is set exactly if it was set or is due
-  pub on_success : (t : Translation) → answer s address a memory ≡ Answer.Done t → (i k : ℕ)
+  pub on_success : (t : Translation) → answer s address a memory ≡ Ok t → (i k : ℕ)
       → bit (get_or (walk_memory s address a memory) i 0) k ≡ (bit (get_or memory i 0) k || due a.access (read s address memory) i k)
   -- after anything else memory is as before
-  pub on_refusal : ((t : Translation) → answer s address a memory ≡ Answer.Done t → ⊥)
+  pub on_refusal : ((t : Translation) → answer s address a memory ≡ Ok t → ⊥)
       → walk_memory s address a memory ≡ memory
   -- the number of bytes is always as before
   pub no_longer : length (walk_memory s address a memory) ≡ length memory
 
 -- (d) "on a walk the number on its path, from 1 to 4, the failing one included. An entry outside memory is not read, so answer 4 reports 0 to 3."
 pub record Counts (s : Settings) (address : VirtAddr) (a : Way) (memory : List ℕ) : Type 0 where
-  pub of_address : (t : Translation) → answer s address a memory ≡ Answer.Done t
+  pub of_address : (t : Translation) → answer s address a memory ≡ Ok t
       → (t.reads ≡ length (read s address memory)) × (1 ≤ t.reads) × (t.reads ≤ levels)
-  pub of_fault : (code l n : ℕ) → answer s address a memory ≡ Answer.Fault code l n
+  pub of_fault : (code l n : ℕ) → answer s address a memory ≡ Err (Refusal.Fault code l n)
       → (n ≡ length (read s address memory)) × (1 ≤ n) × (n ≤ levels)
-  pub of_outside : (at : PhysAddr) (l n : ℕ) → answer s address a memory ≡ Answer.Outside at l n
+  pub of_outside : (at : PhysAddr) (l n : ℕ) → answer s address a memory ≡ Err (Refusal.Outside at l n)
       → (n ≡ length (read s address memory)) × (n < levels)
 
 -- demand 2, for every settings, address, access and memory

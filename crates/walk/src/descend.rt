@@ -1,34 +1,57 @@
 // The walk from a table down: the level falls from 4 to 1, entries are marked on the way back.
 ghost use Rattle.std.specs.Prelude.{◌≡◌, ◌+◌, ◌≤◌, ◌^◌};
-ghost use Rattle.walk.specs.Descent.{IsEnd, IsDescent, higher};
+ghost use Rattle.walk.specs.Descent.{IsEnd, IsDescent, entry_at, higher};
 
-use crate::{Cause, Mapping, Walked};
+use crate::{Cause, Mapping, Unmapped, Walked};
 use address::{PhysAddr, VirtAddr};
 use entry::Says;
 use entry::mark::mark;
 use entry::meaning::under;
 use entry::read::look;
 use entry::rights::{allow, own};
-use word::Loaded;
 
 // The number of levels.
 pub(crate) const LEVELS: u64 = 4;
 
-// A cause with the level of an entry above in it, where that entry by itself lacks a needed right.
-fn above(cause: Cause, needed: u64, own: u64, level: u64) -> Cause
-    ensures { result ≡ higher needed own level cause }
-{
-    match cause {
-        Cause::Missing(l) => Cause::Missing(l),
-        Cause::Reserved(l) => Cause::Reserved(l),
-        Cause::Rights(l) => {
-            if allow(needed, own) {
-                Cause::Rights(l)
-            } else {
-                Cause::Rights(level)
+// What a walk seeks at each level: the page of an address, by the bits reserved in every entry, with the rights needed, to be written or not.
+#[derive(Clone, Copy)]
+pub(crate) struct Sought {
+    pub address: VirtAddr,
+    pub forbidden: u64,
+    pub needed: u64,
+    pub write: bool,
+}
+
+impl Unmapped {
+    // The same with the level of an entry above in a rights fault, where that entry by itself lacks a needed right.
+    fn above(self, needed: u64, own: u64, level: u64) -> Unmapped
+        ensures { result ≡ higher needed own level self }
+    {
+        match self {
+            Unmapped::Refused(Cause::Rights(lower), reads) => {
+                let at = if allow(needed, own) { lower } else { level };
+                Unmapped::Refused(Cause::Rights(at), reads)
             }
+            other => other,
         }
     }
+}
+
+// The entry of a level in the table at a base, with its address; where it lies outside memory the walk ends.
+fn read(
+    memory: &[u8],
+    base: PhysAddr,
+    level: u64,
+    address: VirtAddr,
+) -> Result<(PhysAddr, u64), Unmapped>
+    requires level { level ≤ 4 }
+    requires fits { base.0 + 4096 ≤ 2 ^ 64 }
+    ensures { result ≡ entry_at memory.now address level base }
+{
+    let index = address.index(level);
+    let at = base.entry(index);
+    let entry = look(memory, base, index).ok_or(Unmapped::Outside(at, level, LEVELS - level))?;
+    Ok((at, entry))
 }
 
 // The end at a page: rights are judged, and on success the last entry is marked.
@@ -38,19 +61,18 @@ fn end(
     entry: u64,
     level: u64,
     page: PhysAddr,
-    needed: u64,
-    write: bool,
+    sought: &Sought,
     held: u64,
 ) -> Walked
     requires { level ≤ 4 }
-    ensures { IsEnd needed held write level entry at page memory.old result memory.new }
+    ensures { IsEnd sought.now held level entry at page memory.old result memory.new }
 {
     let own = own(entry);
     let rights = held & own;
     let reads = LEVELS + 1 - level;
-    if allow(needed, rights) {
-        mark(memory, at, write);
-        return Walked::Mapped(Mapping {
+    if allow(sought.needed, rights) {
+        mark(memory, at, sought.write);
+        return Ok(Mapping {
             base: page,
             last: entry,
             rights,
@@ -58,66 +80,38 @@ fn end(
             reads,
         });
     }
-    if allow(needed, own) {
-        return Walked::Refused(Cause::Rights(0), reads);
-    }
-    Walked::Refused(Cause::Rights(level), reads)
+    let lacking = if allow(sought.needed, own) { 0 } else { level };
+    Err(Unmapped::Refused(Cause::Rights(lacking), reads))
 }
 
-// The walk from the table at a base.
+// The walk from the table at a base. The level stays a number: a type from 1 to 4 would owe its bound anew at each fall.
 pub(crate) fn descend(
     memory: &mut [u8],
     base: PhysAddr,
     level: u64,
-    address: VirtAddr,
-    mask: u64,
-    needed: u64,
-    write: bool,
+    sought: &Sought,
     held: u64,
 ) -> Walked
-    requires { (1 ≤ level) × (level ≤ 4) × (base.0 + 4096 ≤ 2 ^ 64) }
-    ensures { IsDescent mask needed held write address level base memory.old result memory.new }
+    requires from { 1 ≤ level }
+    requires to { level ≤ 4 }
+    requires fits { base.0 + 4096 ≤ 2 ^ 64 }
+    ensures { IsDescent sought.now held level base memory.old result memory.new }
 {
-    let index = address.index(level);
-    let at = base.entry(index);
-    match look(memory, base, index) {
-        Loaded::Outside => Walked::Outside(at, level, LEVELS - level),
-        Loaded::Value(entry) => match under(entry, level, mask) {
-            Says::Missing => Walked::Refused(Cause::Missing(level), LEVELS + 1 - level),
-            Says::Reserved => Walked::Refused(Cause::Reserved(level), LEVELS + 1 - level),
-            Says::Page(page) => end(memory, at, entry, level, page, needed, write, held),
-            Says::Table(table) => {
-                let own = own(entry);
-                match descend(
-                    memory,
-                    table,
-                    level - 1,
-                    address,
-                    mask,
-                    needed,
-                    write,
-                    held & own,
-                ) {
-                    Walked::Mapped(m) => {
-                        mark(memory, at, false);
-                        let page = m.base;
-                        Walked::Mapped(Mapping {
-                            base: page,
-                            last: m.last,
-                            rights: m.rights,
-                            size: m.size,
-                            reads: m.reads,
-                        })
-                    }
-                    Walked::Refused(cause, reads) => Walked::Refused(
-                        above(cause, needed, own, level),
-                        reads,
-                    ),
-                    Walked::Outside(outside, lower, reads) => Walked::Outside(
-                        outside, lower, reads,
-                    ),
+    let (at, entry) = read(memory, base, level, sought.address)?;
+    let above = LEVELS - level;
+    match under(entry, level, sought.forbidden) {
+        Says::Missing => Err(Unmapped::Refused(Cause::Missing(level), above + 1)),
+        Says::Reserved => Err(Unmapped::Refused(Cause::Reserved(level), above + 1)),
+        Says::Page(page) => end(memory, at, entry, level, page, sought, held),
+        Says::Table(table) => {
+            let own = own(entry);
+            match descend(memory, table, level - 1, sought, held & own) {
+                Ok(found) => {
+                    mark(memory, at, false);
+                    Ok(found)
                 }
+                Err(unmapped) => Err(unmapped.above(sought.needed, own, level)),
             }
-        },
+        }
     }
 }

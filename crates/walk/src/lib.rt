@@ -1,10 +1,12 @@
 // The four-level walk, and one uncached translation.
 #![tactic(auto)]
 
-use address::PhysAddr;
-use settings::Unserved;
+use address::{PhysAddr, VirtAddr};
+use settings::{Settings, Unserved};
 
+mod answers;
 mod descend;
+mod print;
 pub mod translate;
 pub mod walk;
 pub mod ways;
@@ -24,7 +26,15 @@ pub struct Way {
     pub user: bool,
 }
 
-// What a walk that succeeds finds: the page's base and size, its last entry as read, the rights of all entries and the entries read.
+// What is asked of a walk: under which settings, at which address and in which way.
+#[derive(Clone, Copy)]
+pub struct Question {
+    pub settings: Settings,
+    pub address: VirtAddr,
+    pub way: Way,
+}
+
+// What a walk that succeeds finds: the page's base and size (its level, in a byte as a place holds it), its last entry as read, the rights of all entries and the entries read.
 #[derive(Clone, Copy)]
 pub struct Mapping {
     pub base: PhysAddr,
@@ -42,20 +52,19 @@ pub enum Cause {
     Rights(u64),
 }
 
-// How a walk ends; a fault and an entry outside memory tell the entries read last.
+// Why a walk finds no page: a page fault, or an entry outside memory, by its address and level; each tells the entries read last.
 #[derive(Clone, Copy)]
-pub enum Walked {
-    Mapped(Mapping),
+pub enum Unmapped {
     Refused(Cause, u64),
     Outside(PhysAddr, u64, u64),
 }
 
-// What the tests before a walk find.
+// How a walk ends.
+pub type Walked = Result<Mapping, Unmapped>;
+
+// What the tests before a walk find, where none refuses: the physical address with paging off, or the way of the walk.
 #[derive(Clone, Copy)]
 pub enum Asked {
-    Unknown,
-    NotServed(Unserved),
-    Form,
     Off(PhysAddr),
     On(Way),
 }
@@ -69,10 +78,9 @@ pub struct Translation {
     pub reads: u64,
 }
 
-// What a call is answered: a translation, a refusal, or address and level, or code and level, each with the entries read.
+// Why a call is refused: an entry outside memory has its address and level, a fault its code and level, each with the entries read.
 #[derive(Clone, Copy)]
-pub enum Answer {
-    Done(Translation),
+pub enum Refusal {
     Unknown,
     NotServed(Unserved),
     Form,
@@ -80,6 +88,9 @@ pub enum Answer {
     Fault(u64, u64, u64),
     SpaceNumber,
 }
+
+// What a call is answered.
+pub type Answer = Result<Translation, Refusal>;
 
 // The five numbers of an answer.
 #[derive(Clone, Copy)]

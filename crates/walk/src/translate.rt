@@ -1,138 +1,132 @@
 // One uncached translation: the tests in order, the walk, the answer.
-ghost use Rattle.std.specs.Prelude.{cond, ◌≡◌, ◌≤◌};
+ghost use Rattle.std.specs.Prelude.{◌≡◌};
 ghost use Rattle.walk.specs.Access.{way_of};
 ghost use Rattle.walk.specs.Translate as spec;
+ghost use Rattle.walk.specs.declared.Refusal.TheVariants.{NotServed};
 
-use crate::walk::{needs_fetch, walk};
 use crate::ways::way_of;
-use crate::{Answer, Asked, Cause, Numbers, Translation, Walked, Way};
+use crate::{Answer, Asked, Cause, Question, Refusal, Translation, Unmapped, Walked, Way};
 use address::{PhysAddr, VirtAddr};
 use entry::memory::memory_type;
-use settings::{Service, Settings, number};
+use settings::{Settings, Unserved};
+
+// A refusal of the settings.
+impl From<Unserved> for Refusal {
+    ghost from_gives = { λ why r. r ≡ NotServed why };
+
+    fn from(why: Unserved) -> Refusal {
+        Refusal::NotServed(why)
+    }
+}
 
 // What the tests 1, 2 and 3 find, in this order.
-pub fn ask(settings: Settings, address: VirtAddr, access: u64, mode: u64) -> Asked
+pub fn ask(settings: Settings, address: VirtAddr, access: u64, mode: u64) -> Result<Asked, Refusal>
     ensures { result ≡ spec.asked settings address access mode }
 {
-    if 2 < access {
-        return Asked::Unknown;
+    if 2 < access || 1 < mode {
+        return Err(Refusal::Unknown);
     }
-    if 1 < mode {
-        return Asked::Unknown;
+    settings.judge()?;
+    if settings.pg() {
+        return ask_on(address, way_of(access, mode));
     }
-    let service = settings.judge();
-    match service {
-        Service::NotServed(why) => Asked::NotServed(why),
-        Service::Served => {
-            if settings.pg() {
-                ask_on(address, access, mode)
-            } else {
-                ask_off(address)
-            }
-        }
-    }
+    ask_off(address)
 }
 
 // Paging on: the address must be canonical.
-fn ask_on(address: VirtAddr, access: u64, mode: u64) -> Asked
-    ensures { result ≡ spec.asked_on address (way_of access mode) }
+fn ask_on(address: VirtAddr, way: Way) -> Result<Asked, Refusal>
+    ensures { result ≡ spec.asked_on address way }
 {
     if address.canonical() {
-        return Asked::On(way_of(access, mode));
+        return Ok(Asked::On(way));
     }
-    Asked::Form
+    Err(Refusal::Form)
 }
 
 // Paging off: an address below 2^32 is its own physical address.
-fn ask_off(address: VirtAddr) -> Asked
+fn ask_off(address: VirtAddr) -> Result<Asked, Refusal>
     ensures { result ≡ spec.asked_off address }
 {
     let plain = address.0;
     if plain < 0x1_0000_0000 {
-        return Asked::Off(PhysAddr(plain));
+        return Ok(Asked::Off(PhysAddr(plain)));
     }
-    Asked::Form
-}
-
-// A bit's weight, where the bit is set.
-fn weight(set: bool, value: u64) -> u64
-    ensures { (result ≡ cond set value 0) × (result ≤ value) }
-{
-    if set {
-        return value;
-    }
-    0
+    Err(Refusal::Form)
 }
 
 // A number from the bits of an error code.
 fn code_of(present: bool, write: bool, user: bool, reserved: bool, fetch: bool) -> u64
     ensures { result ≡ spec.code_of present write user reserved fetch }
 {
-    let high = weight(reserved, 8) + weight(fetch, 16);
-    weight(present, 1) + (weight(write, 2) + (weight(user, 4) + high))
+    let high = 8 * u64::from(reserved) + 16 * u64::from(fetch);
+    u64::from(present) + (2 * u64::from(write) + (4 * u64::from(user) + high))
 }
 
-// The error code of a page fault.
-pub fn code(settings: Settings, way: Way, cause: Cause) -> u64
-    ensures { result ≡ spec.code settings way cause }
-{
-    let write = way.writes();
-    let fetch = needs_fetch(settings, way);
-    match cause {
-        Cause::Missing(_) => code_of(false, write, way.user, false, fetch),
-        Cause::Reserved(_) => code_of(true, write, way.user, true, fetch),
-        Cause::Rights(_) => code_of(true, write, way.user, false, fetch),
-    }
-}
-
-// What is given where no page is found: an address, size and memory type 0, no entry read.
-pub fn unpaged(address: PhysAddr) -> Translation
-    ensures { result ≡ spec.unpaged address }
-{
-    Translation {
-        address,
-        size: 0,
-        memory_type: 0,
-        reads: 0,
-    }
-}
-
-// What a walk is answered.
-pub fn answer(settings: Settings, address: VirtAddr, way: Way, walked: Walked) -> Answer
-    ensures { result ≡ spec.answered settings address way walked }
-{
-    match walked {
-        Walked::Mapped(m) => {
-            let base = m.base;
-            let size = m.size as u64;
-            let memory_type = memory_type(m.last, size);
-            Answer::Done(Translation {
-                address: base.plus(address.offset(size)),
-                size,
-                memory_type: memory_type as u64,
-                reads: m.reads,
-            })
+impl Cause {
+    // The level that is reported.
+    fn level(self) -> u64
+        ensures { result ≡ spec.cause_level self }
+    {
+        match self {
+            Cause::Missing(level) | Cause::Reserved(level) | Cause::Rights(level) => level,
         }
-        Walked::Refused(cause, reads) => {
-            let code = code(settings, way, cause);
-            Answer::Fault(code, cause_level(cause), reads)
-        }
-        Walked::Outside(at, level, reads) => Answer::Outside(at, level, reads),
     }
 }
 
-// The level that a cause reports.
-fn cause_level(cause: Cause) -> u64
-    ensures { result ≡ spec.cause_level cause }
-{
-    match cause {
-        Cause::Missing(level) => level,
-        Cause::Reserved(level) => level,
-        Cause::Rights(level) => level,
+impl Question {
+    // The error code of a page fault.
+    pub fn code(self, cause: Cause) -> u64
+        ensures { result ≡ spec.code self.settings self.way cause }
+    {
+        let present = !matches!(cause, Cause::Missing(_));
+        let reserved = matches!(cause, Cause::Reserved(_));
+        code_of(
+            present,
+            self.way.writes(),
+            self.way.user,
+            reserved,
+            self.needs_fetch(),
+        )
+    }
+
+    // What a walk is answered.
+    pub fn answer(self, walked: Walked) -> Answer
+        ensures { result ≡ spec.answered self.settings self.address self.way walked }
+    {
+        match walked {
+            Ok(found) => {
+                let size = u64::from(found.size);
+                Ok(Translation {
+                    address: found.base.plus(self.address.offset(size)),
+                    size,
+                    memory_type: u64::from(memory_type(found.last, size)),
+                    reads: found.reads,
+                })
+            }
+            Err(Unmapped::Refused(cause, reads)) => {
+                Err(Refusal::Fault(self.code(cause), cause.level(), reads))
+            }
+            Err(Unmapped::Outside(at, level, reads)) => Err(Refusal::Outside(at, level, reads)),
+        }
+    }
+}
+
+impl Translation {
+    // What is given where no page is found: an address, size and memory type 0, no entry read.
+    pub fn unpaged(address: PhysAddr) -> Translation
+        ensures { result ≡ spec.unpaged address }
+    {
+        Translation {
+            address,
+            size: 0,
+            memory_type: 0,
+            reads: 0,
+        }
     }
 }
 
 // One uncached translation.
+#[tactic(auto, unfolding(crate::specs::Translate::translated, crate::specs::Translate::translated_memory))]
 pub fn translate(
     memory: &mut [u8],
     settings: Settings,
@@ -142,61 +136,16 @@ pub fn translate(
 ) -> Answer
     ensures { spec.IsTranslation settings address access mode memory.old result memory.new }
 {
-    let asked = ask(settings, address, access, mode);
-    match asked {
-        Asked::Unknown => Answer::Unknown,
-        Asked::NotServed(why) => Answer::NotServed(why),
-        Asked::Form => Answer::Form,
-        Asked::Off(at) => Answer::Done(unpaged(at)),
+    match ask(settings, address, access, mode)? {
+        Asked::Off(at) => Ok(Translation::unpaged(at)),
         Asked::On(way) => {
-            let walked = walk(memory, settings, address, way);
-            answer(settings, address, way, walked)
+            let question = Question {
+                settings,
+                address,
+                way,
+            };
+            let walked = question.walk(memory);
+            question.answer(walked)
         }
-    }
-}
-
-// The five numbers of an answer.
-pub fn numbers(answer: Answer) -> Numbers
-    ensures { result ≡ spec.numbers answer }
-{
-    match answer {
-        Answer::Done(found) => Numbers {
-            answer: 0,
-            value: found.address.0,
-            detail: found.size,
-            reads: found.reads,
-            memory_type: found.memory_type,
-        },
-        Answer::Unknown => refusal(1),
-        Answer::NotServed(why) => refusal(number(why)),
-        Answer::Form => refusal(3),
-        Answer::Outside(at, level, reads) => Numbers {
-            answer: 4,
-            value: at.0,
-            detail: level,
-            reads,
-            memory_type: 0,
-        },
-        Answer::Fault(code, level, reads) => Numbers {
-            answer: 5,
-            value: code,
-            detail: level,
-            reads,
-            memory_type: 0,
-        },
-        Answer::SpaceNumber => refusal(12),
-    }
-}
-
-// The numbers of a refusal that tells nothing more.
-pub fn refusal(answer: u64) -> Numbers
-    ensures { result ≡ spec.refusal answer }
-{
-    Numbers {
-        answer,
-        value: 0,
-        detail: 0,
-        reads: 0,
-        memory_type: 0,
     }
 }

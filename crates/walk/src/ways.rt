@@ -1,20 +1,19 @@
-// How memory is asked.
+// How memory is asked, and the rights that this needs.
 ghost use Rattle.std.specs.Prelude.{◌≡◌};
 ghost use Rattle.walk.specs.Access as spec;
 
-use crate::{Access, Way};
+use crate::{Access, Question, Way};
+use entry::rights::number;
 
-// The access of a number up to 2.
+// The access of a number up to 2; `way_of` promises a way for every number, so there is no TryFrom, and `ask` tests first.
 fn access_of(number: u64) -> Access
     ensures { result ≡ spec.access_of number }
 {
-    if number == 1 {
-        return Access::Write;
+    match number {
+        1 => Access::Write,
+        2 => Access::Fetch,
+        _ => Access::Read,
     }
-    if number == 2 {
-        return Access::Fetch;
-    }
-    Access::Read
 }
 
 // The way of an access and a mode, given as numbers.
@@ -32,23 +31,36 @@ impl Way {
     pub fn writes(self) -> bool
         ensures { result ≡ spec.writes self }
     {
-        let access = self.access;
-        match access {
-            Access::Read => false,
-            Access::Write => true,
-            Access::Fetch => false,
-        }
+        matches!(self.access, Access::Write)
     }
 
     // Whether memory is fetched from.
     pub fn fetches(self) -> bool
         ensures { result ≡ spec.fetches self }
     {
-        let access = self.access;
-        match access {
-            Access::Read => false,
-            Access::Write => false,
-            Access::Fetch => true,
-        }
+        matches!(self.access, Access::Fetch)
+    }
+}
+
+impl Question {
+    // Whether R/W is needed in all entries.
+    pub fn needs_write(self) -> bool
+        ensures { result ≡ spec.needs_write self.settings self.way }
+    {
+        self.way.writes() && (self.way.user || self.settings.wp())
+    }
+
+    // Whether XD has to be clear in all entries.
+    pub fn needs_fetch(self) -> bool
+        ensures { result ≡ spec.needs_fetch self.settings self.way }
+    {
+        self.way.fetches() && self.settings.nxe()
+    }
+
+    // The rights that are needed, as a number.
+    pub fn needed(self) -> u64
+        ensures { result ≡ spec.needed self.settings self.way }
+    {
+        number(self.needs_write(), self.way.user, self.needs_fetch())
     }
 }

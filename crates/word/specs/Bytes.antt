@@ -1,7 +1,5 @@
 -- Little-endian numbers in a list of bytes, over their width in bytes.
-use Rattle.std.specs.Prelude.{ℕ, zero, suc, ◌+◌, ◌*◌, ◌/◌, ◌%◌, Bool, cond, List, leb, length, get_or, set}
-use Rattle.word.specs.declared.Loaded.{Loaded}
-use Rattle.word.specs.declared.Loaded.TheVariants.{Value, Outside}
+use Rattle.std.specs.Prelude.{ℕ, zero, suc, ◌+◌, ◌*◌, ◌/◌, ◌%◌, Bool, cond, List, Option, Some, None, leb, length, get_or, set}
 
 -- the number in the width bytes at an offset, the lowest byte first; "Guest memory is a lent run of bytes; physical address 0 is its first byte."
 unfoldable pub load : ℕ → List ℕ → ℕ → ℕ
@@ -17,9 +15,9 @@ store (suc width) bytes at number = set (store width bytes (suc at) (number / 25
 abbrev pub inside : List ℕ → ℕ → Bool
 inside bytes at = leb (at + 8) (length bytes)
 
--- what a 64-bit load at an offset gives
-abbrev pub loaded : List ℕ → ℕ → Loaded
-loaded bytes at = cond (inside bytes at) (Value (load 8 bytes at)) Outside
+-- what a 64-bit load at an offset gives: the number, where its bytes are all inside
+abbrev pub loaded : List ℕ → ℕ → Option ℕ
+loaded bytes at = cond (inside bytes at) (Some (load 8 bytes at)) None
 
 -- the bytes after a 64-bit store at an offset
 abbrev pub stored : List ℕ → ℕ → ℕ → List ℕ

@@ -3,6 +3,7 @@ ghost use Rattle.std.specs.Prelude.{◌≡◌};
 ghost use Rattle.word.specs.Bits as spec;
 
 // Whether bit k of n is set.
+#[tactic(auto, using(crate::proofs::Laws::nothing_above))]
 pub fn bit(n: u64, k: u64) -> bool
     ensures { result ≡ spec.bit n k }
 {

@@ -3,10 +3,3 @@
 
 pub mod bits;
 pub mod bytes;
-
-// What a load finds: the number, or that its bytes are not all inside.
-#[derive(Clone, Copy)]
-pub enum Loaded {
-    Value(u64),
-    Outside,
-}

@@ -1,17 +1,17 @@
 -- `Cache::drop` meets its contract.
-use Rattle.std.proofs.Common.{arith}
-use Rattle.cache.specs.Whole.{drop_cache}
+use Rattle.std.proofs.Common.{ap, arith, rules, tests, [], ℕ}
+use Rattle.cache.specs.declared.Set.{Set}
+use Rattle.std.proofs.lemmas.List.FromFn.{fill_by_all}
 use Rattle.cache.specs.Sets.{drop_set}
-use Rattle.cache.proofs.Steps.{rewritten_more, rewritten_all}
+use Rattle.cache.specs.Whole.{set_at, drop_cache}
+use Rattle.cache.proofs.Steps.{made_at}
 use Rattle.cache.proofs.Cache.drop.Goals as goal
-
-pub loop-i-preserved : goal.loop-i-preserved
-loop-i-preserved c =
-    let h = c.loop-i.invariant in
-    (h.0, rewritten_more (λ i. drop_set i c.args.drop) c.args.self c.loop-i.cache c.loop-i.i c.drop-left.result h.0 (omega arith) h.1 c.drop-left.ensures)
 
 pub returns : goal.returns
 unfolding drop_cache
 returns c =
-    let h = c.loop-i.invariant in
-    rewritten_all (λ i. drop_set i c.args.drop) c.args.self c.loop-i.cache c.loop-i.i h.0 (omega arith) h.1
+    let a = c.args in
+    let h : ℕ → Set = λ i. drop_set i a.drop (set_at i a.self) in
+    ap (λ sets. record { sets = sets })
+    (fill_by_all h c.from_fn.result 16 (record { places = [] }) c.from_fn.ensures.items.long
+    (λ k small. made_at _ _ h (λ i y q call. search (rules, tests)) c.from_fn.result 0 16 k (record { places = [] }) c.from_fn.ensures.items.each (omega arith) (omega arith)))

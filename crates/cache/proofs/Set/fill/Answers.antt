@@ -1,26 +1,28 @@
 -- `Set::fill` meets its contract.
-use mathlib.Core.Bool.{true}
-use Rattle.cache.specs.Sets.{keep, filled, fill_set}
-use Rattle.cache.proofs.Steps.{picked, set_kept, no_gap}
-use Rattle.cache.specs.Places.{spares}
+use Rattle.std.proofs.Common.{ap, sym, ◌∙◌, ◌∷◌, List, arith, rules, tests}
+use Rattle.std.proofs.lemmas.Iterator.{YieldsList-from_slice}
+use Rattle.std.proofs.lemmas.Iterator.Search.{all_from_yields_List}
+use Rattle.cache.specs.declared.Place.{Place}
+use Rattle.cache.specs.declared.Set.{Set}
+use Rattle.cache.specs.Places.{filled_in, spares}
+use Rattle.cache.specs.Sets.{set_of, fill_set}
+use Rattle.cache.proofs.Lists.{both}
+use Rattle.cache.proofs.Steps.{kept_of_filled, all_kept}
 use Rattle.cache.proofs.Set.fill.Goals as goal
 
-pub returns-then-first-second : goal.returns-then-first-second
+pub returns-then-all : goal.returns-then-all
 unfolding fill_set
-returns-then-first-second c =
+returns-then-all c =
     let a = c.args in
-    no_gap a.set (spares a.place) a.place a.self
-    c.filled_in.ensures c.spared_by.ensures
-    c.filled_in-2.ensures c.spared_by-2.ensures
-    c.filled_in-3.ensures c.spared_by-3.ensures c.if-first-second.true
+    let stays = both (filled_in a.set) (spares a.place) in
+    let all = all_from_yields_List stays _ _ c.all.result c.all.ensures.ran (YieldsList-from_slice a.self.places cc) (λ p b f called. search (rules, tests)) in
+    c.put.ensures
+    ∙ ap (λ (ps : List Place). set_of (a.place ∷ ps)) (sym (all_kept stays a.self.places (sym all ∙ c.if-all.true)) ∙ kept_of_filled a.set (spares a.place) a.self (omega arith))
 
 pub returns : goal.returns
 unfolding fill_set
 returns c =
     let a = c.args in
-    picked true a.place (keep (spares a.place) (filled a.set a.self))
-    (set_kept a.set (spares a.place) a.self
-    c.filled_in.ensures c.spared_by.ensures
-    c.filled_in-2.ensures c.spared_by-2.ensures
-    c.filled_in-3.ensures c.spared_by-3.ensures c.filled_in-4.ensures c.spared_by-4.ensures c.only.ensures)
-    c.pick.ensures
+    c.put-2.ensures
+    ∙ ap (λ (s : Set). set_of (a.place ∷ s.places)) (c.keep.ensures (both (filled_in a.set) (spares a.place)) (λ p b f called. search (rules, tests)))
+    ∙ ap (λ (ps : List Place). set_of (a.place ∷ ps)) (kept_of_filled a.set (spares a.place) a.self (omega arith))

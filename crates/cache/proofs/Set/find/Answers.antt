@@ -1,10 +1,13 @@
 -- `Set::find` meets its contract.
-use Rattle.std.proofs.Common.{◌<◌, arith}
-use Rattle.cache.proofs.Steps.{from_later}
+use Rattle.std.proofs.Common.{◌&&◌, ◌∙◌, rules, tests, arith}
+use Rattle.std.proofs.lemmas.Iterator.{YieldsList-from_slice}
+use Rattle.std.proofs.lemmas.Iterator.Search.{find_from_yields_List}
+use Rattle.cache.specs.Places.{filled_in, serves}
+use Rattle.cache.proofs.Steps.{find_first}
 use Rattle.cache.proofs.Set.find.Goals as goal
 
-pub loop-k-init : goal.loop-k-init
-loop-k-init c =
+pub returns : goal.returns
+returns c =
     let a = c.args in
-    let small : c.first_of-k.result < 4 = omega arith in
-    from_later a.set a.wanted a.self c.first_of-k.result small c.first_of-k.ensures.1
+    let first = find_from_yields_List (λ p. serves a.wanted p && filled_in a.set p) _ _ c.find.result c.find.ensures.ran (YieldsList-from_slice a.self.places cc) (λ x b q k. search (rules, tests)) in
+    c.copied.ensures ∙ first ∙ find_first a.set a.wanted a.self (omega arith)
