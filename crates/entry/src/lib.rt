@@ -10,6 +10,13 @@ pub mod rights;
 
 use address::PhysAddr;
 
+// An entry as it was read, with the level of its table.
+#[derive(Clone, Copy)]
+pub struct Entry {
+    pub value: u64,
+    pub level: u64,
+}
+
 // What an entry says at its level.
 #[derive(Clone, Copy)]
 pub enum Says {

@@ -1,12 +1,12 @@
-// What an entry says at its level; it stays a number beside the level, for its rights, its marks, G and D are asked without one.
+// What an entry says at its level.
 ghost use Rattle.std.specs.Prelude.{◌≡◌, not, ◌-◌, ◌^◌, ◌≤◌, eqb};
 ghost use Rattle.word.specs.Bits.{field};
 ghost use Rattle.address.specs.Address.{page_bits};
 ghost use Rattle.entry.specs.Masks as masks;
 ghost use Rattle.entry.specs.Says as spec;
 
-use crate::Says;
 use crate::bits::{P, PS, XD};
+use crate::{Entry, Says};
 use address::PhysAddr;
 use word::bits::bit;
 
@@ -24,7 +24,7 @@ fn above_width(width: u64) -> u64
     0x10_0000_0000_0000 - (1 << width)
 }
 
-// The bits that are reserved in every entry: 51 to M, and 63 without NXE.
+// The bits that are reserved in every entry: 51 to M, and 63 without NXE; of the settings an entry asks no more than these two.
 pub fn forbidden(width: u64, nxe: bool) -> u64
     ensures { result ≡ masks.forbidden width nxe }
 {
@@ -35,60 +35,58 @@ pub fn forbidden(width: u64, nxe: bool) -> u64
     above + (1 << XD)
 }
 
-// The next table's base.
-fn table_base(entry: u64) -> PhysAddr
-    ensures { result ≡ spec.table_base entry }
-{
-    PhysAddr(entry & 0xf_ffff_ffff_f000)
-}
+impl Entry {
+    // The next table's base.
+    fn table_base(self) -> PhysAddr
+        ensures { result ≡ spec.table_base self.value }
+    {
+        PhysAddr(self.value & 0xf_ffff_ffff_f000)
+    }
 
-// The base of the page that ends at a level.
-fn page_base(entry: u64, level: u64) -> PhysAddr
-    requires { level ≤ 3 }
-    ensures { result ≡ spec.page_base level entry }
-{
-    PhysAddr(entry & (0x10_0000_0000_0000 - (1 << (3 + 9 * level))))
-}
+    // The base of the page that ends here.
+    fn page_base(self) -> PhysAddr
+        requires { self.level ≤ 3 }
+        ensures { result ≡ spec.page_base self.level self.value }
+    {
+        PhysAddr(self.value & (0x10_0000_0000_0000 - (1 << (3 + 9 * self.level))))
+    }
 
-// Whether a large page has a bit set between bit 12 and its base.
-fn inside_page(entry: u64, level: u64) -> bool
-    requires large { 2 ≤ level }
-    requires page { level ≤ 3 }
-    ensures { result ≡ not (eqb (field entry 13 (page_bits level - 13)) 0) }
-{
-    entry & ((1 << (3 + 9 * level)) - 8192) != 0
-}
+    // Whether a large page has a bit set between bit 12 and its base.
+    fn inside_page(self) -> bool
+        requires large { 2 ≤ self.level }
+        requires page { self.level ≤ 3 }
+        ensures { result ≡ not (eqb (field self.value 13 (page_bits self.level - 13)) 0) }
+    {
+        self.value & ((1 << (3 + 9 * self.level)) - 8192) != 0
+    }
 
-// What an entry says at a level, given the bits reserved in every entry.
-pub fn under(entry: u64, level: u64, forbidden: u64) -> Says
-    ensures { result ≡ masks.under forbidden level entry }
-{
-    if !bit(entry, P) {
-        return Says::Missing;
+    // What the entry says, given the bits reserved in every entry.
+    pub fn under(self, forbidden: u64) -> Says
+        ensures { result ≡ masks.under forbidden self.level self.value }
+    {
+        if !bit(self.value, P) {
+            return Says::Missing;
+        }
+        if self.value & forbidden != 0 {
+            return Says::Reserved;
+        }
+        if self.level <= 1 {
+            return Says::Page(self.page_base());
+        }
+        if !bit(self.value, PS) {
+            return Says::Table(self.table_base());
+        }
+        if LARGEST < self.level || self.inside_page() {
+            return Says::Reserved;
+        }
+        Says::Page(self.page_base())
     }
-    if entry & forbidden != 0 {
-        return Says::Reserved;
-    }
-    if level <= 1 {
-        return Says::Page(page_base(entry, level));
-    }
-    if !bit(entry, PS) {
-        return Says::Table(table_base(entry));
-    }
-    if LARGEST < level {
-        return Says::Reserved;
-    }
-    if inside_page(entry, level) {
-        return Says::Reserved;
-    }
-    Says::Page(page_base(entry, level))
-}
 
-// What an entry says at a level, given the width and NXE.
-#[tactic(auto, using(crate::proofs::Masks::under_says))]
-pub fn says(entry: u64, level: u64, width: u64, nxe: bool) -> Says
-    ensures { result ≡ spec.says width nxe level entry }
-{
-    let mask = forbidden(width, nxe);
-    under(entry, level, mask)
+    // What the entry says, given the width and NXE.
+    #[tactic(auto, using(crate::proofs::Masks::under_says))]
+    pub fn says(self, width: u64, nxe: bool) -> Says
+        ensures { result ≡ spec.says width nxe self.level self.value }
+    {
+        self.under(forbidden(width, nxe))
+    }
 }

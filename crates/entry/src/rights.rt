@@ -2,16 +2,19 @@
 ghost use Rattle.std.specs.Prelude.{◌≡◌};
 ghost use Rattle.entry.specs.Rights as spec;
 
+use crate::Entry;
 use crate::bits::{RW, XD};
 
-// The rights of an entry by itself: R/W and U/S are neighbours.
-pub fn own(entry: u64) -> u64
-    ensures { result ≡ spec.own entry }
-{
-    (entry >> RW) % 4 + 4 * (1 - (entry >> XD))
+impl Entry {
+    // The rights of the entry by itself: R/W and U/S are neighbours.
+    pub fn own(self) -> u64
+        ensures { result ≡ spec.own self.value }
+    {
+        (self.value >> RW) % 4 + 4 * (1 - (self.value >> XD))
+    }
 }
 
-// Rights as a number.
+// Rights as a number; a place's flags and an error code hold the same three in bits of their own.
 pub fn number(write: bool, user: bool, fetch: bool) -> u64
     ensures { result ≡ spec.number write user fetch }
 {

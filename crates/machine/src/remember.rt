@@ -6,7 +6,6 @@ ghost use Rattle.machine.specs.Remember as spec;
 use address::VirtAddr;
 use cache::{Place, Wanted};
 use entry::bits::{D, G};
-use entry::memory::memory_type;
 use walk::{Answer, Mapping, Question, Translation};
 use word::bits::bit;
 
@@ -66,7 +65,7 @@ pub(crate) fn place_of(question: Question, found: Mapping) -> Place
         tag: address.tag(),
         frame: physical.frame(),
         size: found.size,
-        memory_type: memory_type(found.last, level),
+        memory_type: found.last_entry().memory_type(),
         number: question.settings.space_number(),
         flags: rights + Place::GLOBAL * u8::from(global & pge) + Place::MARKED,
     }

@@ -138,18 +138,23 @@ impl Settings {
         self.cr3 >> width == 0
     }
 
-    // Whether PE, PAE and LME are set, as paging needs them.
+    // Whether PE, PAE and LME are set, as paging needs them; by & here and below, for && makes a walk slower (docs/DECISIONS.md).
     fn mode(self) -> bool
         ensures { result ≡ spec.mode self }
     {
-        bit(self.cr0, Settings::PE) && bit(self.cr4, Settings::PAE) && bit(self.efer, Settings::LME)
+        let pe = bit(self.cr0, Settings::PE);
+        let pae = bit(self.cr4, Settings::PAE);
+        let lme = bit(self.efer, Settings::LME);
+        pe & (pae & lme)
     }
 
     // Whether CR4 bits 12 and 20 to 24 are clear, as paging needs them.
     fn extensions(self) -> bool
         ensures { result ≡ spec.extensions self }
     {
-        !bit(self.cr4, 12) && field(self.cr4, 20, 5) == 0
+        let five_levels = bit(self.cr4, 12);
+        let later = field(self.cr4, 20, 5);
+        !five_levels & (later == 0)
     }
 
     // The first test that fails, in the order width, root, mode, extensions, space numbers.

@@ -1,20 +1,18 @@
 // One entry: what it says at its level, its rights, reading and marking it.
 use address::PhysAddr;
-use entry::Says;
 use entry::mark::mark;
-use entry::meaning::says;
-use entry::memory::memory_type;
 use entry::read::look;
-use entry::rights::own;
+use entry::{Entry, Says};
 use std::io;
 use std::io::Write;
 use word::bytes::{load64, store64};
 
 // Prints what an entry says at a level, with an M and NXE.
-fn at(out: &mut impl Write, entry: u64, level: u64, width: u64, nxe: bool) -> io::Result<()> {
+fn at(out: &mut impl Write, value: u64, level: u64, width: u64, nxe: bool) -> io::Result<()> {
+    let entry = Entry { value, level };
     let clear = if nxe { "" } else { ", NXE clear" };
-    write!(out, "entry {entry:#x} at level {level}, M {width}{clear}: ")?;
-    match says(entry, level, width, nxe) {
+    write!(out, "entry {value:#x} at level {level}, M {width}{clear}: ")?;
+    match entry.says(width, nxe) {
         Says::Missing => writeln!(out, "missing"),
         Says::Reserved => writeln!(out, "reserved"),
         Says::Table(address) => writeln!(out, "table {:#x}", address.0),
@@ -22,10 +20,11 @@ fn at(out: &mut impl Write, entry: u64, level: u64, width: u64, nxe: bool) -> io
     }
 }
 
-// Prints the rights of an entry by itself.
-fn rights(out: &mut impl Write, entry: u64) -> io::Result<()> {
-    let rights = own(entry);
-    write!(out, "entry {entry:#x}: rights")?;
+// Prints the rights of an entry by itself: they are the same at each level.
+fn rights(out: &mut impl Write, value: u64) -> io::Result<()> {
+    let entry = Entry { value, level: 1 };
+    let rights = entry.own();
+    write!(out, "entry {value:#x}: rights")?;
     for (weight, name) in [(1, "write"), (2, "user"), (4, "fetch")] {
         if rights & weight != 0 {
             write!(out, " {name}")?;
@@ -35,11 +34,12 @@ fn rights(out: &mut impl Write, entry: u64) -> io::Result<()> {
 }
 
 // Prints the memory type index of an entry at a level.
-fn kind(out: &mut impl Write, entry: u64, level: u64) -> io::Result<()> {
-    let index = memory_type(entry, level);
+fn kind(out: &mut impl Write, value: u64, level: u64) -> io::Result<()> {
+    let entry = Entry { value, level };
+    let index = entry.memory_type();
     writeln!(
         out,
-        "entry {entry:#x} at level {level}: memory type {index}"
+        "entry {value:#x} at level {level}: memory type {index}"
     )
 }
 

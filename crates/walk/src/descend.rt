@@ -4,11 +4,10 @@ ghost use Rattle.walk.specs.Descent.{IsEnd, IsDescent, entry_at, higher};
 
 use crate::{Cause, Mapping, Unmapped, Walked};
 use address::{PhysAddr, VirtAddr};
-use entry::Says;
 use entry::mark::mark;
-use entry::meaning::under;
 use entry::read::look;
-use entry::rights::{allow, own};
+use entry::rights::allow;
+use entry::{Entry, Says};
 
 // The number of levels.
 pub(crate) const LEVELS: u64 = 4;
@@ -50,37 +49,40 @@ fn read(
 {
     let index = address.index(level);
     let at = base.entry(index);
-    let entry = look(memory, base, index).ok_or(Unmapped::Outside(at, level, LEVELS - level))?;
-    Ok((at, entry))
+    let value = look(memory, base, index).ok_or(Unmapped::Outside(at, level, LEVELS - level))?;
+    Ok((at, value))
 }
 
 // The end at a page: rights are judged, and on success the last entry is marked.
 fn end(
     memory: &mut [u8],
     at: PhysAddr,
-    entry: u64,
-    level: u64,
+    entry: Entry,
     page: PhysAddr,
     sought: &Sought,
     held: u64,
 ) -> Walked
-    requires { level ≤ 4 }
-    ensures { IsEnd sought.now held level entry at page memory.old result memory.new }
+    requires { entry.level ≤ 4 }
+    ensures { IsEnd sought.now held entry.level entry.value at page memory.old result memory.new }
 {
-    let own = own(entry);
+    let own = entry.own();
     let rights = held & own;
-    let reads = LEVELS + 1 - level;
+    let reads = LEVELS + 1 - entry.level;
     if allow(sought.needed, rights) {
         mark(memory, at, sought.write);
         return Ok(Mapping {
             base: page,
-            last: entry,
+            last: entry.value,
             rights,
-            size: level as u8,
+            size: entry.level as u8,
             reads,
         });
     }
-    let lacking = if allow(sought.needed, own) { 0 } else { level };
+    let lacking = if allow(sought.needed, own) {
+        0
+    } else {
+        entry.level
+    };
     Err(Unmapped::Refused(Cause::Rights(lacking), reads))
 }
 
@@ -97,14 +99,15 @@ pub(crate) fn descend(
     requires fits { base.0 + 4096 ≤ 2 ^ 64 }
     ensures { IsDescent sought.now held level base memory.old result memory.new }
 {
-    let (at, entry) = read(memory, base, level, sought.address)?;
+    let (at, value) = read(memory, base, level, sought.address)?;
+    let entry = Entry { value, level };
     let above = LEVELS - level;
-    match under(entry, level, sought.forbidden) {
+    match entry.under(sought.forbidden) {
         Says::Missing => Err(Unmapped::Refused(Cause::Missing(level), above + 1)),
         Says::Reserved => Err(Unmapped::Refused(Cause::Reserved(level), above + 1)),
-        Says::Page(page) => end(memory, at, entry, level, page, sought, held),
+        Says::Page(page) => end(memory, at, entry, page, sought, held),
         Says::Table(table) => {
-            let own = own(entry);
+            let own = entry.own();
             match descend(memory, table, level - 1, sought, held & own) {
                 Ok(found) => {
                     mark(memory, at, false);

@@ -5,9 +5,9 @@ ghost use Rattle.walk.specs.Translate as spec;
 ghost use Rattle.walk.specs.declared.Refusal.TheVariants.{NotServed};
 
 use crate::ways::way_of;
-use crate::{Answer, Asked, Cause, Question, Refusal, Translation, Unmapped, Walked, Way};
+use crate::{Answer, Asked, Cause, Mapping, Question, Refusal, Translation, Unmapped, Walked, Way};
 use address::{PhysAddr, VirtAddr};
-use entry::memory::memory_type;
+use entry::Entry;
 use settings::{Settings, Unserved};
 
 // A refusal of the settings.
@@ -62,6 +62,19 @@ fn code_of(present: bool, write: bool, user: bool, reserved: bool, fetch: bool) 
     u64::from(present) + (2 * u64::from(write) + (4 * u64::from(user) + high))
 }
 
+impl Mapping {
+    // The last entry, with the level of its table.
+    pub fn last_entry(self) -> Entry
+        ensures value { result.value ≡ self.last }
+        ensures level { result.level ≡ self.size }
+    {
+        Entry {
+            value: self.last,
+            level: u64::from(self.size),
+        }
+    }
+}
+
 impl Cause {
     // The level that is reported.
     fn level(self) -> u64
@@ -90,6 +103,7 @@ impl Question {
     }
 
     // What a walk is answered.
+    #[inline(always)]
     pub fn answer(self, walked: Walked) -> Answer
         ensures { result ≡ spec.answered self.settings self.address self.way walked }
     {
@@ -99,7 +113,7 @@ impl Question {
                 Ok(Translation {
                     address: found.base.plus(self.address.offset(size)),
                     size,
-                    memory_type: u64::from(memory_type(found.last, size)),
+                    memory_type: u64::from(found.last_entry().memory_type()),
                     reads: found.reads,
                 })
             }

@@ -12,31 +12,31 @@ returns-in_err-at t c =
 pub returns-in-Missing : goal.returns-in-Missing
 returns-in-Missing t c =
     let a = c.args in
-    ret_missing a.sought.now a.held a.level c.requires.from c.requires.to a.base a.memory.now c.in_ok-at.at c.in_ok-at.entry
+    ret_missing a.sought.now a.held a.level c.requires.from c.requires.to a.base a.memory.now c.in_ok-at.at c.in_ok-at.value
     (sym c.read.ensures ∙ c.in_ok-at.was) (sym c.under.ensures ∙ c.in-Missing.is)
 
 pub returns-in-Reserved : goal.returns-in-Reserved
 returns-in-Reserved t c =
     let a = c.args in
-    ret_reserved a.sought.now a.held a.level c.requires.from c.requires.to a.base a.memory.now c.in_ok-at.at c.in_ok-at.entry
+    ret_reserved a.sought.now a.held a.level c.requires.from c.requires.to a.base a.memory.now c.in_ok-at.at c.in_ok-at.value
     (sym c.read.ensures ∙ c.in_ok-at.was) (sym c.under.ensures ∙ c.in-Reserved.is)
 
 pub returns-in-Page : goal.returns-in-Page
 returns-in-Page t c =
     let a = c.args in
-    ret_page a.sought.now a.held a.level c.requires.from c.requires.to a.base a.memory.now c.in_ok-at.at c.in_ok-at.entry
+    ret_page a.sought.now a.held a.level c.requires.from c.requires.to a.base a.memory.now c.in_ok-at.at c.in_ok-at.value
     (sym c.read.ensures ∙ c.in_ok-at.was) c.in-Page.page (sym c.under.ensures ∙ c.in-Page.is) c.end.result c.end.new.memory c.end.ensures
 
 pub returns-in-Ok : goal.returns-in-Ok
 returns-in-Ok t c =
     let a = c.args in
-    ret_mapped a.sought.now a.held a.level c.requires.from c.requires.to a.base a.memory.now c.in_ok-at.at c.in_ok-at.entry
+    ret_mapped a.sought.now a.held a.level c.requires.from c.requires.to a.base a.memory.now c.in_ok-at.at c.in_ok-at.value
     (sym c.read.ensures ∙ c.in_ok-at.was) c.in-Table.table (sym c.under.ensures ∙ c.in-Table.is) c.own-own.result c.own-own.ensures
     c.descend.result c.descend.new.memory c.descend.ensures c.in-Ok.found c.in-Ok.is c.mark.new.memory c.mark.ensures
 
 pub returns-in-Err : goal.returns-in-Err
 returns-in-Err t c =
     let a = c.args in
-    ret_unmapped a.sought.now a.held a.level c.requires.from c.requires.to a.base a.memory.now c.in_ok-at.at c.in_ok-at.entry
+    ret_unmapped a.sought.now a.held a.level c.requires.from c.requires.to a.base a.memory.now c.in_ok-at.at c.in_ok-at.value
     (sym c.read.ensures ∙ c.in_ok-at.was) c.in-Table.table (sym c.under.ensures ∙ c.in-Table.is) c.own-own.result c.own-own.ensures
     c.descend.result c.descend.new.memory c.descend.ensures c.in-Err.unmapped c.in-Err.is c.above.result c.above.ensures

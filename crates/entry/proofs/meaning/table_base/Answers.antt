@@ -1,8 +1,0 @@
--- `meaning::table_base` meets its contract.
-use Prim.Native.Nat.{ℕ}
-use mathlib.Core.Path.{ap}
-use Rattle.entry.proofs.Masks.{masked}
-use Rattle.entry.proofs.meaning.table_base.Goals as goal
-
-pub returns : goal.returns
-returns c = ap (λ (x : ℕ). record { 0 = x }) (masked c.args.entry 12 52)
