@@ -14,7 +14,7 @@ impl Entry {
     }
 }
 
-// Rights as a number; a place's flags and an error code hold the same three in bits of their own.
+// Rights as a number: the three come one by one and are packed at once, as for a place's flags and an error code.
 pub fn number(write: bool, user: bool, fetch: bool) -> u64
     ensures { result ≡ spec.number write user fetch }
 {
