@@ -56,7 +56,7 @@ impl Set {
         ensures { result ≡ spec.fill_set set place self }
     {
         let stays = |old: &Place| old.filled_in(set) && old.spared_by(place);
-        // Without this path a fill takes 2.1 times the plain cache's time, with it 1.6.
+        // The quick way where all places stay: docs/DESIGN-PASS.md has what a fill took without it.
         if self.places.iter().all(&stays) {
             return self.put(place);
         }
