@@ -1,14 +1,17 @@
 // A writer over fixed memory: std's own takes its memory from an allocator, and one over an array alone fails where its room ends.
-ghost use Rattle.std.specs.Prelude.{◌≤◌};
+ghost use Rattle.std.specs.Prelude.{◌+◌, ◌≤◌, ◌≡◌, OnOk, length};
+ghost use Rattle.std.specs.Io.KnownBytes.{Appends, Keeps};
+ghost use Rattle.play.specs.Output as spec;
 ghost use Rattle.play.specs.declared.gathered.TheConstants.{ROOM};
 
+use crate::{CARDS, LINE};
 use std::io;
 use std::io::Write;
 
-// The bytes that are gathered: the lines of 128 cards fit.
-const ROOM: usize = 16384;
+// The bytes that are gathered: the lines of the cards that are played at once fit.
+const ROOM: usize = LINE * CARDS;
 
-// What is written is gathered, and passed on at a flush and where the room is used up.
+// What is written is gathered, and passed on where that is asked for and where the room is used up.
 #[derive(Drop)]
 pub(crate) struct Gathered<W> {
     output: W,
@@ -19,7 +22,9 @@ pub(crate) struct Gathered<W> {
 
 impl<W: Write> Gathered<W> {
     // Nothing is gathered yet.
-    pub(crate) fn new(output: W) -> Gathered<W> {
+    pub(crate) fn new(output: W) -> Gathered<W>
+        ensures { Keeps (W.contents output) (spec.gathered (W.contents result.output) result.text result.used) }
+    {
         Gathered {
             output,
             text: [0u8; ROOM],
@@ -27,35 +32,61 @@ impl<W: Write> Gathered<W> {
         }
     }
 
-    // Passes on what is gathered, and then bytes that have no room beside it; set apart, so that what each line does is small.
-    #[cold]
-    #[inline(never)]
-    fn pass_on(&mut self, bytes: &[u8]) -> io::Result<()> {
-        self.flush()?;
-        self.output.write_all(bytes)
-    }
-}
-
-impl<W: Write> Write for Gathered<W> {
-    fn write(&mut self, bytes: &[u8]) -> io::Result<usize> {
-        self.write_all(bytes)?;
-        Ok(bytes.len())
-    }
-
-    fn flush(&mut self) -> io::Result<()> {
+    // Passes on what is gathered.
+    pub(crate) fn pass_on(&mut self) -> io::Result<()>
+        ensures passed { OnOk result (Keeps (spec.gathered (W.contents self.old.output) self.old.text self.old.used)
+            (W.contents self.new.output)) }
+        ensures none { OnOk result (self.new.used ≡ 0) }
+    {
         self.output.write_all(&self.text[..self.used])?;
         self.used = 0;
         Ok(())
     }
 
+    // Passes on what is gathered, and then bytes that have no room beside it; set apart, so that what each line does is small.
+    #[cold]
+    #[inline(never)]
+    fn pass_on_with(&mut self, bytes: &[u8]) -> io::Result<()>
+        ensures { OnOk result (Appends (spec.gathered (W.contents self.old.output) self.old.text self.old.used)
+            (spec.gathered (W.contents self.new.output) self.new.text self.new.used) bytes.now) }
+    {
+        self.pass_on()?;
+        self.output.write_all(bytes)
+    }
+
+    // Gathers bytes that have room.
     #[inline(always)]
-    fn write_all(&mut self, bytes: &[u8]) -> io::Result<()> {
-        let end = self.used.saturating_add(bytes.len());
-        if ROOM < end {
-            return self.pass_on(bytes);
-        }
+    fn gather(&mut self, bytes: &[u8])
+        requires { self.old.used + length bytes.now ≤ ROOM }
+        ensures { Appends (spec.gathered (W.contents self.old.output) self.old.text self.old.used)
+            (spec.gathered (W.contents self.new.output) self.new.text self.new.used) bytes.now }
+    {
+        let end = self.used + bytes.len();
         self.text[self.used..end].copy_from_slice(bytes);
         self.used = end;
+    }
+}
+
+impl<W: Write> Write for Gathered<W> {
+    ghost contents = { λ g. spec.gathered (W.contents g.output) g.text g.used };
+
+    fn write(&mut self, bytes: &[u8]) -> io::Result<usize> {
+        let count = bytes.len().min(ROOM - self.used);
+        self.gather(&bytes[..count]);
+        Ok(count)
+    }
+
+    // Leaves what is gathered to `pass_on`: a flush owes, by std's law, that a failure loses no byte.
+    fn flush(&mut self) -> io::Result<()> {
+        Ok(())
+    }
+
+    #[inline(always)]
+    fn write_all(&mut self, bytes: &[u8]) -> io::Result<()> {
+        if ROOM - self.used < bytes.len() {
+            return self.pass_on_with(bytes);
+        }
+        self.gather(bytes);
         Ok(())
     }
 }

@@ -1,9 +1,10 @@
 // Playing a deck of exercise cards: cards in on standard input, a line for each out.
 #![tactic(auto)]
 
-ghost use Rattle.std.specs.Prelude.{◌++◌, OnOk, codes, decimal};
+ghost use Rattle.std.specs.Prelude.{◌+◌, ◌*◌, ◌^◌, ◌<◌, ◌≤◌, OnOk, length};
 ghost use Rattle.std.specs.Io.KnownBytes.{Appends};
-ghost use Rattle.walk.specs.Print.{text};
+ghost use Rattle.play.specs.Output as spec;
+ghost use Rattle.play.specs.declared.TheConstants.{CARD, CARDS, LINE};
 
 use crate::gathered::Gathered;
 use crate::input::read_full;
@@ -26,9 +27,13 @@ const CARD: usize = 32;
 // The cards that are read and played at once.
 const CARDS: usize = 128;
 
+// The bytes that a line takes at most.
+const LINE: usize = 122;
+
 // Writes the line of one card: its number and the answer's five.
 fn write_line<W: Write>(output: &mut W, number: u64, numbers: Numbers) -> io::Result<()>
-    ensures { OnOk result (Appends (W.contents output.old) (W.contents output.new) (decimal number ++ codes " " ++ text numbers ++ codes "\n")) }
+    ensures written { OnOk result (Appends (W.contents output.old) (W.contents output.new) (spec.line number numbers)) }
+    ensures short { length (spec.line number numbers) ≤ LINE }
 {
     writeln!(output, "{number} {numbers}")
 }
@@ -51,7 +56,10 @@ impl Board {
     }
 
     // Plays some cards, the last of which may be short, and writes their lines, numbered from `first`.
-    fn play(&mut self, cards: &[u8], first: u64, output: &mut impl Write) -> io::Result<()> {
+    fn play(&mut self, cards: &[u8], first: u64, output: &mut impl Write) -> io::Result<()>
+        requires block { length cards.now ≤ CARD * CARDS }
+        requires numbers { first + CARDS < 2 ^ 64 }
+    {
         for (number, card) in (first..).zip(cards.chunks(CARD)) {
             let numbers = step(&mut self.machine, &mut self.memory, card);
             write_line(output, number, numbers)?;
@@ -61,16 +69,18 @@ impl Board {
 }
 
 // Reads some cards and plays them, those before a failed read too; gives whether more can follow. "The deck is standard input."; "an empty deck prints nothing".
-fn read(
+fn read<W: Write>(
     input: &mut impl Read,
-    output: &mut impl Write,
+    output: &mut Gathered<W>,
     board: &mut Board,
     first: u64,
-) -> io::Result<bool> {
+) -> io::Result<bool>
+    requires { first + CARDS < 2 ^ 64 }
+{
     let mut cards = [0u8; CARD * CARDS];
     let block = read_full(input, &mut cards);
     board.play(block.bytes, first, output)?;
-    output.flush()?;
+    output.pass_on()?;
     block.read?;
     Ok(block.bytes.len() == CARD * CARDS)
 }
