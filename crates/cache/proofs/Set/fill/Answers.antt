@@ -1,5 +1,5 @@
 -- `Set::fill` meets its contract.
-use Rattle.std.proofs.Common.{ap, sym, ◌∙◌, ◌∷◌, List, arith, rules, tests}
+use Rattle.std.proofs.Common.{◌≡◌, ap, sym, ◌∙◌, ◌∷◌, List, arith, rules, tests}
 use Rattle.std.proofs.lemmas.Iterator.{YieldsList-from_slice}
 use Rattle.std.proofs.lemmas.Iterator.Search.{all_from_yields_List}
 use Rattle.cache.specs.declared.Place.{Place}
@@ -16,13 +16,13 @@ returns-then-all c =
     let a = c.args in
     let stays = both (filled_in a.set) (spares a.place) in
     let all = all_from_yields_List stays _ _ c.all.result c.all.ensures.ran (YieldsList-from_slice a.self.places cc) (λ p b f called. search (rules, tests)) in
-    c.put.ensures
-    ∙ ap (λ (ps : List Place). set_of (a.place ∷ ps)) (sym (all_kept stays a.self.places (sym all ∙ c.if-all.true)) ∙ kept_of_filled a.set (spares a.place) a.self (omega arith))
+    let whole = sym (all_kept stays a.self.places (sym all ∙ c.if-all.true)) ∙ kept_of_filled a.set (spares a.place) a.self (omega arith) in
+    rw (← whole) (search rules)
 
 pub returns : goal.returns
 unfolding fill_set
 returns c =
     let a = c.args in
-    c.put-2.ensures
-    ∙ ap (λ (s : Set). set_of (a.place ∷ s.places)) (c.keep.ensures (both (filled_in a.set) (spares a.place)) (λ p b f called. search (rules, tests)))
-    ∙ ap (λ (ps : List Place). set_of (a.place ∷ ps)) (kept_of_filled a.set (spares a.place) a.self (omega arith))
+    let kept = c.keep.ensures (both (filled_in a.set) (spares a.place)) (λ p b f called. search (rules, tests)) in
+    let whole = kept_of_filled a.set (spares a.place) a.self (omega arith) in
+    rw (← whole) (search (rules, kept))
