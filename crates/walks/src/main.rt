@@ -1,6 +1,8 @@
 // The second program's walks: records from standard input, a line for each to standard output.
 #![tactic(auto)]
 
+ghost use Rattle.std.specs.Prelude.{◌≤◌};
+
 use crate::line::{print_answer, print_changes};
 use crate::record::Record;
 use std::io;
@@ -13,16 +15,14 @@ mod record;
 const MOST: usize = 32768;
 
 // Walks as a record asks, and prints its line: memory is laid out twice, so that one is left as it was.
-fn walk_record(
-    out: &mut impl Write,
-    count: u64,
-    record: &Record,
-    before: &mut [u8],
-    memory: &mut [u8],
-) -> io::Result<()> {
-    record.lay_out(before);
-    print_answer(out, count, record.ask(memory))?;
-    print_changes(out, before, memory)?;
+fn walk_record(out: &mut impl Write, count: u64, record: &Record, wanted: usize) -> io::Result<()>
+    requires { wanted ≤ MOST }
+{
+    let mut before = [0u8; MOST];
+    let mut memory = [0u8; MOST];
+    record.lay_out(&mut before[..wanted]);
+    print_answer(out, count, record.ask(&mut memory[..wanted]))?;
+    print_changes(out, &before[..wanted], &memory[..wanted])?;
     out.write_all(b"\n")
 }
 
@@ -35,15 +35,7 @@ fn one_record(input: &mut impl Read, out: &mut impl Write, count: u64) -> io::Re
     if MOST < wanted {
         return Ok(false);
     }
-    let mut before = [0u8; MOST];
-    let mut memory = [0u8; MOST];
-    walk_record(
-        out,
-        count,
-        &record,
-        &mut before[..wanted],
-        &mut memory[..wanted],
-    )?;
+    walk_record(out, count, &record, wanted)?;
     Ok(true)
 }
 
