@@ -175,6 +175,7 @@ impl Machine {
     }
 
     // INVPCID: refused with 1, 12 or 3, in this order, it changes nothing; C hands its numbers over one by one, and each test reads two.
+    #[inline(always)]
     #[tactic(auto, unfolding(crate::specs::Calls::invalidated))]
     pub fn invpcid(self, kind: u64, number: u64, address: VirtAddr) -> Stepped<Answer>
         ensures { result ≡ spec.invalidated self kind number address }
