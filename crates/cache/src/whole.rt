@@ -4,7 +4,6 @@ ghost use Rattle.cache.specs.Places as place;
 ghost use Rattle.cache.specs.Whole as spec;
 
 use crate::{Cache, Drop, Set};
-use std::array;
 
 impl Cache {
     // The cache of all zeros: "the empty cache belongs to the cache".
@@ -24,11 +23,12 @@ impl Cache {
     }
 
     // The cache with the places that a drop leaves, every set rewritten.
-    pub fn drop(self, drop: Drop) -> Cache
+    pub fn drop(mut self, drop: Drop) -> Cache
         ensures { result ≡ spec.drop_cache drop self }
     {
-        Cache {
-            sets: array::from_fn(|i| self.sets[i].drop(i as u64, drop)),
+        for (i, set) in self.sets.iter_mut().enumerate() {
+            *set = set.drop(i as u64, drop);
         }
+        self
     }
 }
