@@ -145,7 +145,8 @@ fn ask(
     writeln!(out)
 }
 
-// Prints questions, each on fresh memory with the exercises' entries.
+// Prints questions, each on fresh memory with the exercises' entries. A frame of its own: the stack has one such memory at a time.
+#[inline(never)]
 fn ask_all(out: &mut impl Write, questions: &[Question]) -> io::Result<()> {
     for question in questions {
         ask(out, &mut [0u8; 32768], &ENTRIES, *question)?;
@@ -262,6 +263,17 @@ fn extensions() -> [Question; 9] {
     .map(|(words, settings, cr4)| under(words, Settings { cr4, ..settings }, FIRST))
 }
 
+// Two walks over one table at every level.
+#[inline(never)]
+fn one_table(out: &mut impl Write) -> io::Result<()> {
+    for access in [READ, WRITE] {
+        let words = ", one table at every level";
+        let question = under(words, EXERCISES, usual(USER, access, 0xabc));
+        ask(out, &mut [0u8; 8192], &ROUND, question)?;
+    }
+    Ok(())
+}
+
 // Every exercise, and two walks over one table at every level.
 pub(crate) fn all(out: &mut impl Write) -> io::Result<()> {
     ask_all(out, &given())?;
@@ -271,10 +283,5 @@ pub(crate) fn all(out: &mut impl Write) -> io::Result<()> {
     ask_all(out, &widths())?;
     ask_all(out, &tested())?;
     ask_all(out, &extensions())?;
-    for access in [READ, WRITE] {
-        let words = ", one table at every level";
-        let question = under(words, EXERCISES, usual(USER, access, 0xabc));
-        ask(out, &mut [0u8; 8192], &ROUND, question)?;
-    }
-    Ok(())
+    one_table(out)
 }
