@@ -1,5 +1,5 @@
 -- The laws of the cache that other crates cite: of one place, of one set, of the whole.
-use Prim.Native.Nat.{ℕ, ◌*◌, ◌/◌, ◌^◌, ◌<◌, ◌≤◌}
+use Prim.Native.Nat.{ℕ, ◌+◌, ◌*◌, ◌/◌, ◌^◌, ◌<◌, ◌≤◌}
 use native.Mathlib.Decide.{dec_lt}
 use native.Mathlib.Omega.{arith}
 use mathlib.Core.Path.{◌≡◌, refl, sym, ap, ◌∙◌}
@@ -16,10 +16,12 @@ use Rattle.cache.specs.declared.Set.{Set}
 use Rattle.cache.specs.declared.Cache.{Cache}
 use Rattle.cache.specs.declared.Wanted.{Wanted}
 use Rattle.std.specs.Prelude.{Option}
+use Rattle.std.proofs.Math.Nat.{mul-div-mul_right, div-one}
+use Rattle.std.proofs.lemmas.Nat.{pow-add}
 use Rattle.cache.specs.Places.{is_marked, has_g, zero_place, set_index, filled_in, Key, key_of, mine, page_bytes, covers, left, other_tag, spares, serves}
 use Rattle.cache.specs.Sets.{keep, four, set_of, empty_set, filled, first_serving, find_in, fill_set, drop_set}
 use Rattle.cache.specs.Whole.{set_at, held, rewrite_set, rewrite_all, empty_cache, fill_cache, drop_cache}
-use Rattle.cache.proofs.Steps.{sets_below_length, sets_below_at}
+use Rattle.cache.proofs.Steps.{other_tag_lem, sets_below_length, sets_below_at}
 use Rattle.cache.proofs.Lists.{Each, and_true, each_keep, each_kept, keep_length, keep_four}
 
 -- One place.
@@ -84,6 +86,22 @@ pub tag_other : (t : ℕ) (p : Place) → (p.tag ≡ t → ⊥) → other_tag t 
 unfolding other_tag
 tag_other t p e = ap not (ne_eqb p.tag t e)
 
+-- a tag's page among pages of 2 ^ k pieces of 4 KiB: its address by their bytes is its tag by their pieces
+by_pieces : (k n : ℕ) → n * 4096 / 2 ^ (k + 12) ≡ n / 2 ^ k
+by_pieces k n = rw (pow-add 2 k 12) (mul-div-mul_right {m = 4096} n (2 ^ k) (omega arith))
+
+-- a place of 2 MiB covers the tags that have its own quotient by 512
+pub covers_2_mib : (k : Key) (t : ℕ) → k.size ≡ 2 → eqb (k.tag / 512) (t / 512) ≡ covers k t
+covers_2_mib k t size = rw (size, by_pieces 9 k.tag, by_pieces 9 t)
+
+-- a place of 1 GiB covers the tags that have its own quotient by 262144
+pub covers_1_gib : (k : Key) (t : ℕ) → k.size ≡ 3 → eqb (k.tag / 262144) (t / 262144) ≡ covers k t
+covers_1_gib k t size = rw (size, by_pieces 18 k.tag, by_pieces 18 t)
+
+-- a place of neither size covers its own tag alone
+pub covers_4_kib : (k : Key) (t : ℕ) → (k.size ≡ 2 → ⊥) → (k.size ≡ 3 → ⊥) → eqb k.tag t ≡ covers k t
+covers_4_kib k t not-2 not-3 = rw (ne_eqb k.size 2 not-2, ne_eqb k.size 3 not-3, by_pieces 0 k.tag, by_pieces 0 t, div-one k.tag, div-one t)
+
 -- a page drop takes the place of the page itself
 pub own_covered : (k : Key) → covers k k.tag ≡ true
 own_covered k = eq-eqb (k.tag * 4096 / page_bytes k.size) _ refl
@@ -134,12 +152,8 @@ has_serves w p h = rw (eq-eqb p.tag w.tag h.same_tag, h.has_flags, h.is_mine)
 
 -- a place of another tag does not serve
 pub other_serves_not : (w : Wanted) (p : Place) → other_tag w.tag p ≡ true → not (serves w p) ≡ true
-unfolding other_tag serves
-other_serves_not w p h = go (eqb p.tag w.tag) _ _ h
-  where
-    go : (b flags mine : Bool) → not b ≡ true → not ((b && flags) && mine) ≡ true
-    go true flags mine e = cc
-    go false flags mine e = refl
+unfolding other_tag
+other_serves_not w p h = ap not (other_tag_lem w p (eqb-false p.tag w.tag (not-true (eqb p.tag w.tag) h)))
 
 -- One set.
 

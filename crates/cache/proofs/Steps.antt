@@ -5,6 +5,7 @@ use native.Mathlib.Omega.{arith}
 use mathlib.Core.Path.{◌≡◌, refl, sym, ap, subst, ◌∙◌}
 use mathlib.Core.Bool.{Bool, true, false, ◌&&◌, cond}
 use mathlib.Core.List.{List, [], ◌∷◌, ◌++◌}
+use borrow.Author.Tests.{ne_eqb}
 use lib.ListN.{length, get_or, set, take, length-append, get_or-append}
 use lib.Seq.{get_or_at}
 use Rattle.std.specs.Prelude.{Option, Some}
@@ -43,6 +44,11 @@ find_first i w s h = go s.places ∙ ap (λ (ps : List Place). first_serving w (
     go : (ps : List Place) → find (λ q. serves w q && filled_in i q) ps ≡ first_serving w (keep (filled_in i) ps)
     go [] = refl
     go (p ∷ ps) = step p ps (serves w p) (filled_in i p) refl (go ps)
+
+-- a place of another tag does not serve
+pub other_tag_lem : (w : Wanted) (p : Place) → (p.tag ≡ w.tag → ⊥) → serves w p ≡ false
+unfolding serves
+other_tag_lem w p h = rw (ne_eqb p.tag w.tag h)
 
 -- what two tests keep of a set's places is what the second keeps of the filled, where the first is that a place is filled
 pub kept_of_filled : (i : ℕ) (test : Place → Bool) (s : Set) → length s.places ≡ 4 → keep (both (filled_in i) test) s.places ≡ keep test (filled i s)

@@ -1,2 +1,3 @@
+pub mod Cards
 pub mod Demand1
 pub mod Probing

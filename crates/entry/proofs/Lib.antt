@@ -2,3 +2,4 @@ pub mod Marks
 pub mod Masks
 pub mod Meeting
 pub mod Parts
+pub mod Telling

@@ -7,8 +7,9 @@ use mathlib.Core.Bool.{Bool, true, false, not, ◌&&◌, cond}
 use mathlib.Core.List.{List}
 use lib.Bits.{bit_and}
 use Rattle.word.specs.Bits.{bit}
-use Rattle.word.specs.Bytes.{load, inside}
+use Rattle.word.specs.Bytes.{load, inside, loaded}
 use Rattle.address.specs.declared.PhysAddr.{PhysAddr}
+use Rattle.address.specs.declared.VirtAddr.{VirtAddr}
 use Rattle.address.specs.Address.{index}
 use Rattle.entry.specs.declared.Says.{Says}
 use Rattle.entry.specs.Mark.{mark}
@@ -25,7 +26,7 @@ use Rattle.entry.specs.Masks.{under}
 use Rattle.walk.specs.Descent.{ended_below, walked_below, at_page, higher, path_below, entry_at, IsEnd, IsDescent}
 use Rattle.walk.specs.Path.{Path, End, Entry, ends, next, outside, missing, reserved, page, onward, level, path, entries, end_of, reads, rights, report, every, marks}
 use Rattle.walk.specs.Walk.{after}
-use Rattle.std.specs.Prelude.{Ok, Err}
+use Rattle.std.specs.Prelude.{Ok, Err, Some, None}
 
 -- a case split that keeps its equation
 pub by_cases {ℓ} : {X : Type ℓ} (b : Bool) → (b ≡ true → X) → (b ≡ false → X) → X
@@ -42,6 +43,26 @@ ap₃ f p q r = λ i. f (p i) (q i) (r i)
 -- a level from 1 on, as a successor
 whole : (n : ℕ) → 1 ≤ n → n ≡ suc (n - 1)
 whole n h = omega arith
+
+-- one level of a path, whatever an entry tells
+module _ (tell : ℕ → ℕ → Says) (m : List ℕ) (va : VirtAddr) (n l base : ℕ) (is : n ≡ suc l) where
+  -- the address of the entry at this level
+  abbrev pub at : ℕ
+  at = base + 8 * index va n
+
+  -- a path from a level on, with that level's step outermost
+  unroll : path tell m va n base ≡ level tell m n at (λ (table : ℕ). path tell m va l table)
+  unfolding path
+  unroll = rw is refl
+
+  -- a path whose next entry is outside memory ends there
+  pub path_outside : loaded m at ≡ None → path tell m va n base ≡ ends (outside n at)
+  path_outside h = by_cases (inside m at) (λ e. cc) (λ e. unroll ∙ rw e refl)
+
+  -- a path whose next entry is a number goes on as that tells
+  pub path_value : (v : ℕ) → loaded m at ≡ Some v
+      → path tell m va n base ≡ onward (tell n v) (record { level = n; address = at; value = v }) (λ (table : ℕ). path tell m va l table)
+  path_value v h = by_cases (inside m at) (λ e. let same : load 8 m at ≡ v = cc in unroll ∙ rw (e, same) refl) (λ e. cc)
 
 -- the rights of a path from an entry on: that entry's, met with the rest's
 pub rights_next : (e : Entry) (p : Path) → rights (next e p) ≡ bit_and (own e.value) (rights p)
@@ -119,7 +140,7 @@ below_page need held n v at b most =
 pub after_err : (write : Bool) (p : Path) (m : List ℕ) (why : Unmapped) → after write p m (Err why) ≡ m
 unfolding after
 after_err write p m (Refused cause n) = refl
-after_err write p m (Outside at l n) = refl
+after_err write p m (Outside a l n) = refl
 
 after_cond : (write : Bool) (p : Path) (m : List ℕ) (ok : Bool) (f : Mapping) (cause : Cause) (k : ℕ)
     → after write p m (cond ok (Ok f) (Err (Refused cause k))) ≡ cond ok (marks write p m) m
@@ -139,30 +160,25 @@ module _ (s : Sought) (held : ℕ) (n : ℕ) (from : 1 ≤ n) (most : n ≤ 4) (
   abbrev this : ℕ → Entry
   this v = record { level = n; address = spot; value = v }
 
-  unroll : here ≡ level (under s.forbidden) m n spot (λ (table : ℕ). path (under s.forbidden) m s.address (n - 1) table)
-  unfolding path
-  unroll =
-      ap (λ (k : ℕ). path (under s.forbidden) m s.address k b.0) (whole n from)
-      ∙ ap (λ (k : ℕ). level (under s.forbidden) m k (b.0 + 8 * index s.address k) (λ (table : ℕ). path (under s.forbidden) m s.address (n - 1) table))
-      (sym (whole n from))
-
   pub ret_outside : (why : Unmapped) → entry_at m s.address n b ≡ Err why → (r : Walked) → r ≡ Err why → IsDescent s held n b m r m
   unfolding after ended_below end_of entries
   ret_outside why h r is_err =
       by_cases (inside m spot) (λ e. cc)
-      (λ e. let same : why ≡ Outside (record { 0 = spot }) n (4 - n) = cc in (rw (is_err, unroll, e, add-zero (4 - n), same), rw is_err (sym (after_err s.write here m why))))
+      (λ e. let same : why ≡ Outside (record { 0 = spot }) n (4 - n) = cc in
+      let on : here ≡ ends (outside n spot) = path_outside (under s.forbidden) m s.address n (n - 1) b.0 (whole n from) (rw e refl) in
+      (rw (is_err, on, add-zero (4 - n), same), rw is_err (sym (after_err s.write here m why))))
 
   -- what was read
   module _ (at : PhysAddr) (v : ℕ) (h : entry_at m s.address n b ≡ Ok (at, v)) where
-    read : (inside m spot ≡ true) × (load 8 m spot ≡ v) × (at ≡ record { 0 = spot })
+    read : (loaded m spot ≡ Some v) × (at ≡ record { 0 = spot })
     read =
         by_cases (inside m spot)
         (λ e. let same : ◌≡◌ {A = PhysAddr × ℕ} (record { 0 = spot }, load 8 m spot) (at, v) = cc in
-        (e, ap (λ (z : PhysAddr × ℕ). z.1) same, sym (ap (λ (z : PhysAddr × ℕ). z.0) same)))
-        (λ e. (cc, cc, cc))
+        (rw e (ap (λ (z : PhysAddr × ℕ). Some z.1) same), sym (ap (λ (z : PhysAddr × ℕ). z.0) same)))
+        (λ e. (cc, cc))
 
     found : here ≡ onward (under s.forbidden n v) (this v) (λ (table : ℕ). path (under s.forbidden) m s.address (n - 1) table)
-    found = unroll ∙ rw (read.0, read.1)
+    found = path_value (under s.forbidden) m s.address n (n - 1) b.0 (whole n from) v read.0
 
     pub ret_missing : under s.forbidden n v ≡ Says.Missing
         → IsDescent s held n b m (Err (Refused (Missing n) (4 - n + 1))) m
@@ -180,7 +196,7 @@ module _ (s : Sought) (held : ℕ) (n : ℕ) (from : 1 ≤ n) (most : n ≤ 4) (
     ret_page p says r m' ended = (
       ended.0 ∙ below_page s.needed held n v spot p most ∙ ap (walked_below s.needed held (4 - n)) (sym on),
       ended.1
-          ∙ ap (λ (z : PhysAddr). cond (allow s.needed (bit_and held (own v))) (mark s.write m z.0) m) read.2
+          ∙ ap (λ (z : PhysAddr). cond (allow s.needed (bit_and held (own v))) (mark s.write m z.0) m) read.1
           ∙ ap (λ (z : Path). cond (allow s.needed (bit_and held (own v))) (marks s.write z m) m) (sym on)
           ∙ sym (after_cond s.write here m (allow s.needed (bit_and held (own v)))
           (record { base = p; last = v; rights = bit_and held (own v); size = n; reads = 4 + 1 - n })
@@ -209,7 +225,7 @@ module _ (s : Sought) (held : ℕ) (n : ℕ) (from : 1 ≤ n) (most : n ≤ 4) (
       ret_mapped f is_mapped m'' the-mark = (
         sym (back ∙ ap (lift s.needed o n) is_mapped),
         the-mark
-            ∙ ap₂ (mark false) (below.1 ∙ ap (after s.write (path_below s m (n - 1) t) m) is_mapped) (ap (λ (z : PhysAddr). z.0) read.2)
+            ∙ ap₂ (mark false) (below.1 ∙ ap (after s.write (path_below s m (n - 1) t) m) is_mapped) (ap (λ (z : PhysAddr). z.0) read.1)
             ∙ ap (λ (z : Path). marks s.write z m) (sym on),
       )
 

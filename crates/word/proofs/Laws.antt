@@ -1,6 +1,6 @@
 -- Laws of little-endian loads and stores, over the width in bytes.
 use Prim.Native.Nat.{ℕ, zero, suc, ◌+◌, ◌*◌, ◌/◌, ◌%◌, ◌^◌, ◌<◌, ◌≤◌}
-use native.Mathlib.Nat.{add-suc, one-mul, div-eq_of_lt, div-div-eq-div-mul, lt_of_lt_of_le}
+use native.Mathlib.Nat.{zero-add, add-zero, add-suc, suc-add, one-mul, mul_assoc, mul_comm, div-one, div-eq_of_lt, div-div-eq-div-mul, lt_of_lt_of_le, pow-suc}
 use native.Mathlib.Omega.{arith}
 use mathlib.Core.Path.{◌≡◌, refl, ap, sym, ◌∙◌}
 use mathlib.Core.List.{List, [], ◌∷◌, ◌++◌}
@@ -36,6 +36,27 @@ store_between (suc w) l i v fits =
     ∙ ap (λ (z : List ℕ). z ++ after) (sym (take-set-lt (suc i) l i b (omega arith)) ∙ take-suc-set l i b within)
     ∙ append_assoc (take i l) (b ∷ []) after
     ∙ ap (λ (z : List ℕ). take i l ++ (b ∷ low w (v / 256) ++ drop (suc w) z)) (sym (drop-cons l i 0 within))
+
+-- a load of j + k bytes is a load of the low j and of the high k
+pub load_split : (j k : ℕ) (l : List ℕ) (i : ℕ) → load (j + k) l i ≡ load j l i + 256 ^ j * load k l (i + j)
+unfolding load
+load_split zero k l i = rw (zero-add k, add-zero, one-mul, zero-add) refl
+load_split (suc j) k l i =
+    rw (suc-add j k, load_split j k l (suc i), suc-add i j, add-suc i j, pow-suc 256 j, mul_comm (256 ^ j) 256, mul_assoc 256 (256 ^ j))
+    (omega arith)
+
+-- a store of j + k bytes is a store of the high k, then of the low j
+pub store_split : (j k : ℕ) (l : List ℕ) (i v : ℕ) → store (j + k) l i v ≡ store j (store k l (i + j) (v / 256 ^ j)) i v
+unfolding store
+store_split zero k l i v = rw (zero-add k, add-zero, div-one) refl
+store_split (suc j) k l i v =
+    rw (suc-add j k, store_split j k l (suc i) (v / 256), suc-add i j, add-suc i j, pow-suc 256 j, mul_comm (256 ^ j) 256, div-div-eq-div-mul v 256 (256 ^ j))
+    refl
+
+-- a store of twice the width is two stores
+pub store_twice : (w : ℕ) (l m n : List ℕ) (i v : ℕ)
+    → m ≡ store w l (i + w) (v / 256 ^ w) → n ≡ store w m i v → n ≡ store (w + w) l i v
+store_twice w l m n i v upper lower = lower ∙ ap (λ (x : List ℕ). store w x i v) upper ∙ sym (store_split w w l i v)
 
 -- a store keeps the length
 pub store_length : (w : ℕ) (l : List ℕ) (i v : ℕ) → length (store w l i v) ≡ length l
