@@ -1,5 +1,5 @@
 -- What the code's steps give: the places kept so far, what a lookup finds, the sets below a number.
-use Prim.Native.Nat.{ℕ, zero, suc, ◌<◌}
+use Prim.Native.Nat.{ℕ, zero, suc, ◌+◌, ◌<◌, ◌≤◌}
 use native.Mathlib.Decide.{dec_lt}
 use native.Mathlib.Omega.{arith}
 use mathlib.Core.Path.{◌≡◌, refl, sym, ap, subst, ◌∙◌}
@@ -8,7 +8,10 @@ use mathlib.Core.List.{List, [], ◌∷◌, ◌++◌}
 use borrow.Author.Tests.{ne_eqb}
 use lib.ListN.{length, get_or, set, take, length-append, get_or-append}
 use lib.Seq.{get_or_at}
+use denote.Param.Members.{Mut}
 use Rattle.std.specs.Prelude.{Option, Some}
+use Rattle.std.specs.Array.{IsFromFnResultFrom}
+use Rattle.std.specs.Fn.{Called}
 use Rattle.std.specs.Iterator.{Yields}
 use Rattle.std.specs.List.{find, filter, list_all}
 use Rattle.cache.specs.declared.Place.{Place}
@@ -91,6 +94,20 @@ four_first (a ∷ []) = refl
 four_first (a ∷ b ∷ []) = refl
 four_first (a ∷ b ∷ c ∷ []) = refl
 four_first (a ∷ b ∷ c ∷ d ∷ ps) = refl
+
+-- an array made by a closure that gives a function of the index and stays as it is
+pub made_at : {F B : Type 0} (g : Mut F (ℕ × Unit {0}) B) (f : F) (h : ℕ → B) → ((i : ℕ) (y : B) (q : F) → Called g f (i, tt) y q → (q ≡ f) × (y ≡ h i))
+    → (ys : List B) (i n k : ℕ) (d : B) → IsFromFnResultFrom g f ys i n → i ≤ k → k < i + n → get_or ys k d ≡ h k
+made_at g f h gives ys i zero k d made low high = absurd (omega arith)
+made_at {F} g f h gives ys i (suc n) k d (q, y, here, call, rest) low high =
+    let P : F → Type 0 = λ p. IsFromFnResultFrom g p ys (i + 1) n in
+    go (dec_lt i k) (λ later. made_at g f h gives ys (i + 1) n k d (subst P (gives i y q call).0 rest) (omega arith) (omega arith))
+  where
+    go : Dec (i < k) → (i < k → get_or ys k d ≡ h k) → get_or ys k d ≡ h k
+    go (yes later) after = after later
+    go (no not-later) after =
+        let same : k ≡ i = omega arith in
+        ap (λ (j : ℕ). get_or ys j d) same ∙ here.1 d ∙ (gives i y q call).1 ∙ ap h (sym same)
 
 -- there are as many sets below a number as it says
 pub sets_below_length : (n : ℕ) (f : ℕ → Set) → length (sets_below n f) ≡ n

@@ -1,11 +1,9 @@
 -- `Set::fill` meets its contract.
-use Rattle.std.proofs.Common.{◌≡◌, ap, sym, ◌∙◌, ◌∷◌, List, arith, rules, tests}
+use Rattle.std.proofs.Common.{sym, ◌∙◌, arith, rules, tests}
 use Rattle.std.proofs.lemmas.Iterator.{YieldsList-from_slice}
 use Rattle.std.proofs.lemmas.Iterator.Search.{all_from_yields_List}
-use Rattle.cache.specs.declared.Place.{Place}
-use Rattle.cache.specs.declared.Set.{Set}
 use Rattle.cache.specs.Places.{filled_in, spares}
-use Rattle.cache.specs.Sets.{set_of, fill_set}
+use Rattle.cache.specs.Sets.{fill_set}
 use Rattle.cache.proofs.Lists.{both}
 use Rattle.cache.proofs.Steps.{kept_of_filled, all_kept}
 use Rattle.cache.proofs.Set.fill.Goals as goal
