@@ -7,11 +7,11 @@ use std::io::Write;
 fn split(out: &mut impl Write, plain: u64) -> io::Result<()> {
     let address = VirtAddr(plain);
     let form = if address.canonical() {
-        "canonical"
+        ": canonical"
     } else {
-        "not canonical"
+        ": not canonical"
     };
-    write!(out, "address {plain:#x}: {form}, indexes")?;
+    write!(out, "address {plain:#x}{form}, indexes")?;
     for level in (1..=4).rev() {
         write!(out, " {}", address.index(level))?;
     }

@@ -13,11 +13,12 @@ fn at(out: &mut impl Write, value: u64, level: u64, width: u64, nxe: bool) -> io
     let clear = if nxe { "" } else { ", NXE clear" };
     write!(out, "entry {value:#x} at level {level}, M {width}{clear}: ")?;
     match entry.says(width, nxe) {
-        Says::Missing => writeln!(out, "missing"),
-        Says::Reserved => writeln!(out, "reserved"),
-        Says::Table(address) => writeln!(out, "table {:#x}", address.0),
-        Says::Page(address) => writeln!(out, "page {:#x}", address.0),
+        Says::Missing => write!(out, "missing")?,
+        Says::Reserved => write!(out, "reserved")?,
+        Says::Table(address) => write!(out, "table {:#x}", address.0)?,
+        Says::Page(address) => write!(out, "page {:#x}", address.0)?,
     }
+    writeln!(out)
 }
 
 // Prints the rights of an entry by itself: they are the same at each level.
@@ -25,9 +26,9 @@ fn rights(out: &mut impl Write, value: u64) -> io::Result<()> {
     let entry = Entry { value, level: 1 };
     let rights = entry.own();
     write!(out, "entry {value:#x}: rights")?;
-    for (weight, name) in [(1, "write"), (2, "user"), (4, "fetch")] {
+    for (weight, name) in [(1, " write"), (2, " user"), (4, " fetch")] {
         if rights & weight != 0 {
-            write!(out, " {name}")?;
+            write!(out, "{name}")?;
         }
     }
     writeln!(out)
@@ -43,12 +44,13 @@ fn kind(out: &mut impl Write, value: u64, level: u64) -> io::Result<()> {
     )
 }
 
-// Prints what a load found.
+// Prints what a load found, and ends the line.
 fn found(out: &mut impl Write, loaded: Option<u64>) -> io::Result<()> {
     match loaded {
-        Some(value) => writeln!(out, "{value:#x}"),
-        None => writeln!(out, "outside"),
+        Some(value) => write!(out, "{value:#x}")?,
+        None => write!(out, "outside")?,
     }
+    writeln!(out)
 }
 
 // Prints an entry after it was marked.
@@ -56,7 +58,7 @@ fn marked(out: &mut impl Write, words: &str, entry: u64, dirty: bool) -> io::Res
     let mut memory = [0u8; 8];
     store64(&mut memory, 0, entry);
     mark(&mut memory, PhysAddr(0), dirty);
-    write!(out, "entry {entry:#x} {words}: ")?;
+    write!(out, "entry {entry:#x}{words}")?;
     found(out, load64(&memory, 0))
 }
 
@@ -112,9 +114,9 @@ fn bits(out: &mut impl Write) -> io::Result<()> {
     for entry in [0x5007, 0x6005, 0x2001, 0x8000_0000_0000_7007] {
         rights(out, entry)?;
     }
-    marked(out, "read", 0x5007, false)?;
-    marked(out, "written", 0x6005, true)?;
-    marked(out, "written", 0x6065, true)
+    marked(out, " read: ", 0x5007, false)?;
+    marked(out, " written: ", 0x6005, true)?;
+    marked(out, " written: ", 0x6065, true)
 }
 
 // "PWT (bit 3), PCD (bit 4) and PAT (bit 7 at level 1, bit 12 of a large page)"

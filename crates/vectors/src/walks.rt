@@ -134,11 +134,11 @@ fn ask(
     ));
     write!(
         out,
-        "{question}: answer {}, value {:#x}, ",
+        "{question}: answer {}, value {:#x}",
         told.answer, told.value
     )?;
-    write!(out, "detail {}, reads {}, ", told.detail, told.reads)?;
-    write!(out, "memory type {}", told.memory_type)?;
+    write!(out, ", detail {}, reads {}", told.detail, told.reads)?;
+    write!(out, ", memory type {}", told.memory_type)?;
     for (at, entry) in entries {
         changed(out, memory, *at, *entry)?;
     }
