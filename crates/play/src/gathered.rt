@@ -70,6 +70,7 @@ impl<W: Write> Gathered<W> {
 impl<W: Write> Write for Gathered<W> {
     ghost contents = { λ g. spec.gathered (W.contents g.output) g.text g.used };
 
+    // Takes what has room; where none is left, nothing.
     fn write(&mut self, bytes: &[u8]) -> io::Result<usize> {
         let count = bytes.len().min(ROOM - self.used);
         self.gather(&bytes[..count]);

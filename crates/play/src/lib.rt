@@ -1,7 +1,7 @@
 // Playing a deck of exercise cards: cards in on standard input, a line for each out.
 #![tactic(auto)]
 
-ghost use Rattle.std.specs.Prelude.{◌+◌, ◌*◌, ◌^◌, ◌<◌, ◌≤◌, OnOk, length};
+ghost use Rattle.std.specs.Prelude.{◌≡◌, ◌+◌, ◌*◌, ◌^◌, ◌<◌, ◌≤◌, OnOk, length};
 ghost use Rattle.std.specs.Io.KnownBytes.{Appends};
 ghost use Rattle.play.specs.Output as spec;
 ghost use Rattle.play.specs.declared.TheConstants.{CARD, CARDS, LINE};
@@ -76,6 +76,7 @@ fn read<W: Write>(
     first: u64,
 ) -> io::Result<bool>
     requires { first + CARDS < 2 ^ 64 }
+    ensures { OnOk result (output.new.used ≡ 0) }
 {
     let mut cards = [0u8; CARD * CARDS];
     let block = read_full(input, &mut cards);

@@ -263,7 +263,7 @@ fn extensions() -> [Question; 9] {
     .map(|(words, settings, cr4)| under(words, Settings { cr4, ..settings }, FIRST))
 }
 
-// Two walks over one table at every level.
+// Two walks over one table at every level. A frame of its own, as above.
 #[inline(never)]
 fn one_table(out: &mut impl Write) -> io::Result<()> {
     for access in [READ, WRITE] {

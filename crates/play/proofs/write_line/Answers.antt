@@ -6,4 +6,4 @@ use Rattle.play.proofs.write_line.Goals as goal
 pub returns-clause-short : goal.returns-clause-short
 returns-clause-short g c =
     let n = c.args.numbers in
-    line_short c.args.number n (omega arith) (omega arith) (omega arith) (omega arith) (omega arith) (omega arith)
+    omega (arith, line_short c.args.number n (omega arith) (omega arith) (omega arith) (omega arith) (omega arith) (omega arith))
