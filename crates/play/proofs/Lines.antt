@@ -4,10 +4,10 @@ use Rattle.std.specs.Prelude.{◌==◌, if◌then◌else◌}
 use Rattle.std.proofs.lemmas.Fmt.{length-decimal-le}
 use Rattle.std.proofs.lemmas.List.{length-replicate}
 use Rattle.std.specs.Fmt.{digits, decimal, digits_onto, digit_glyph}
-use Rattle.std.specs.Io.KnownBytes.{Keeps, Appends}
+use Rattle.std.specs.Io.KnownBytes.{Keeps, Appends, append_known}
 use Rattle.walk.specs.declared.Numbers.{Numbers}
 use Rattle.walk.specs.Print.{sixteen_digits}
-use Rattle.play.specs.Output.{line, gathered}
+use Rattle.play.specs.Output.{line}
 
 -- a 64-bit number has at most twenty decimal digits
 twenty : (n : ℕ) → n < 2 ^ 64 → length (decimal n) ≤ 20
@@ -40,15 +40,17 @@ line_short number n a b c d e f =
     simp length-append
     (omega (arith, twenty number a, twenty n.answer b, sixteen n.value c, length-append (replicate (16 - length (digits 16 false n.value)) 48) (digits 16 false n.value), twenty n.detail d, twenty n.reads e, twenty n.memory_type f))
 
--- all that was gathered is passed on, and then more bytes
-passed : (old mid new : Option (List ℕ)) (text bytes : List ℕ) (used : ℕ) → Keeps old mid → used ≡ 0 → Appends mid new bytes → Appends old (gathered new text used) bytes
+-- bytes that follow all that was gathered, with nothing gathered since
+passed : (old mid new : Option (List ℕ)) (text bytes : List ℕ) (used : ℕ) → Keeps old mid → used ≡ 0 → Appends mid new bytes
+    → Appends old (append_known new (take used text)) bytes
 passed None mid new text bytes used kept none more = tt
 passed (Some x) None new text bytes used kept none more = absurd kept
 passed (Some x) (Some y) None text bytes used kept none more = absurd more
 passed (Some x) (Some y) (Some z) text bytes used kept none more =
     ap (λ (u : ℕ). z ++ take u text) none ∙ append-nil z ∙ more ∙ ap (λ (l : List ℕ). l ++ bytes) kept
 
+-- the same where the write of those bytes did not fail
 pub passed_on : {T E : Type 0} (r : Result T E) (old mid new : Option (List ℕ)) (text bytes : List ℕ) (used : ℕ) → Keeps old mid → used ≡ 0
-    → OnOk r (Appends mid new bytes) → OnOk r (Appends old (gathered new text used) bytes)
+    → OnOk r (Appends mid new bytes) → OnOk r (Appends old (append_known new (take used text)) bytes)
 passed_on (Ok x) old mid new text bytes used kept none more = passed old mid new text bytes used kept none more
 passed_on (Err e) old mid new text bytes used kept none more = tt

@@ -21,7 +21,8 @@ use Rattle.walk.specs.declared.Mapping.{Mapping}
 use Rattle.walk.specs.Answers.{Walked}
 use Rattle.walk.specs.declared.Unmapped.{Unmapped}
 use Rattle.walk.specs.declared.Unmapped.TheVariants.{Refused, Outside}
-use Rattle.walk.specs.Descent.{ended_below, walked_below, at_page, higher, entry_at}
+use Rattle.walk.specs.Descent.{ended_below, walked_below, at_page, higher, path_below, entry_at, IsEnd, Descends}
+use Rattle.walk.specs.declared.descend.Sought.{Sought}
 use Rattle.walk.specs.Path.{Path, End, Entry, ends, next, outside, missing, reserved, page, onward, level, path, entries, end_of, reads, rights, report, every, marks}
 use Rattle.walk.specs.Walk.{after}
 use Rattle.std.specs.Prelude.{Ok, Err, Some, None}
@@ -146,37 +147,29 @@ unfolding after
 after_cond write p m true f cause k = refl
 after_cond write p m false f cause k = refl
 
--- the walk from the table at a base, whatever an entry tells: its answer, and memory after it
-module _ (tell : ℕ → ℕ → Says) (va : VirtAddr) (need : ℕ) (write : Bool) where
-  abbrev pub Descends : ℕ → ℕ → PhysAddr → List ℕ → Walked → List ℕ → Type 0
-  Descends held n b m r m' = (r ≡ walked_below need held (4 - n) (path tell m va n b.0)) × (m' ≡ after write (path tell m va n b.0) m r)
-
-module _ (tell : ℕ → ℕ → Says) (va : VirtAddr) (need : ℕ) (write : Bool) (held : ℕ) (n : ℕ) (from : 1 ≤ n) (most : n ≤ 4) (b : PhysAddr) (m : List ℕ) where
-  -- the same from here
-  abbrev pub Gives : Walked → List ℕ → Type 0
-  Gives = Descends tell va need write held n b m
-
+-- the ends of a level, whatever an entry tells
+module _ (tell : ℕ → ℕ → Says) (s : Sought) (held : ℕ) (n : ℕ) (from : 1 ≤ n) (most : n ≤ 4) (b : PhysAddr) (m : List ℕ) where
   -- the path from here
   abbrev here : Path
-  here = path tell m va n b.0
+  here = path_below tell s m n b
 
   -- the entry's address, and the entry
   abbrev spot : ℕ
-  spot = b.0 + 8 * index va n
+  spot = b.0 + 8 * index s.address n
 
   abbrev this : ℕ → Entry
   this v = record { level = n; address = spot; value = v }
 
-  pub ret_outside : (why : Unmapped) → entry_at m va n b ≡ Err why → (r : Walked) → r ≡ Err why → Gives r m
+  pub ret_outside : (why : Unmapped) → entry_at m s.address n b ≡ Err why → (r : Walked) → r ≡ Err why → Descends tell s held n b m r m
   unfolding after ended_below end_of entries
   ret_outside why h r is_err =
       by_cases (inside m spot) (λ e. cc)
       (λ e. let same : why ≡ Outside (record { 0 = spot }) n (4 - n) = cc in
-      let on : here ≡ ends (outside n spot) = path_outside tell m va n (n - 1) b.0 (whole n from) (rw e refl) in
-      (rw (is_err, on, add-zero (4 - n), same), rw is_err (sym (after_err write here m why))))
+      let on : here ≡ ends (outside n spot) = path_outside tell m s.address n (n - 1) b.0 (whole n from) (rw e refl) in
+      (rw (is_err, on, add-zero (4 - n), same), rw is_err (sym (after_err s.write here m why))))
 
   -- what was read
-  module _ (at : PhysAddr) (v : ℕ) (h : entry_at m va n b ≡ Ok (at, v)) where
+  module _ (at : PhysAddr) (v : ℕ) (h : entry_at m s.address n b ≡ Ok (at, v)) where
     read : (loaded m spot ≡ Some v) × (at ≡ record { 0 = spot })
     read =
         by_cases (inside m spot)
@@ -184,65 +177,65 @@ module _ (tell : ℕ → ℕ → Says) (va : VirtAddr) (need : ℕ) (write : Boo
         (rw e (ap (λ (z : PhysAddr × ℕ). Some z.1) same), sym (ap (λ (z : PhysAddr × ℕ). z.0) same)))
         (λ e. (cc, cc))
 
-    found : here ≡ onward (tell n v) (this v) (λ (table : ℕ). path tell m va (n - 1) table)
-    found = path_value tell m va n (n - 1) b.0 (whole n from) v read.0
+    found : here ≡ onward (tell n v) (this v) (λ (table : ℕ). path tell m s.address (n - 1) table)
+    found = path_value tell m s.address n (n - 1) b.0 (whole n from) v read.0
 
     pub ret_missing : tell n v ≡ Says.Missing
-        → Gives (Err (Refused (Missing n) (4 - n + 1))) m
+        → Descends tell s held n b m (Err (Refused (Missing n) (4 - n + 1))) m
     unfolding after ended_below end_of entries
     ret_missing says = (rw (found, says), refl)
 
     pub ret_reserved : tell n v ≡ Says.Reserved
-        → Gives (Err (Refused (Reserved n) (4 - n + 1))) m
+        → Descends tell s held n b m (Err (Refused (Reserved n) (4 - n + 1))) m
     unfolding after ended_below end_of entries
     ret_reserved says = (rw (found, says), refl)
 
-    pub ret_page : (p : PhysAddr) → tell n v ≡ Says.Page p → (r : Walked) (m' : List ℕ) → (r ≡ at_page need held n v p) × (m' ≡ cond (allow need (bit_and held (own v))) (mark write m at.0) m)
-        → Gives r m'
+    pub ret_page : (p : PhysAddr) → tell n v ≡ Says.Page p → (r : Walked) (m' : List ℕ) → IsEnd s held n v at p m r m'
+        → Descends tell s held n b m r m'
     unfolding after marks
     ret_page p says r m' ended = (
-      ended.0 ∙ below_page need held n v spot p most ∙ ap (walked_below need held (4 - n)) (sym on),
+      ended.0 ∙ below_page s.needed held n v spot p most ∙ ap (walked_below s.needed held (4 - n)) (sym on),
       ended.1
-          ∙ ap (λ (z : PhysAddr). cond (allow need (bit_and held (own v))) (mark write m z.0) m) read.1
-          ∙ ap (λ (z : Path). cond (allow need (bit_and held (own v))) (marks write z m) m) (sym on)
-          ∙ sym (after_cond write here m (allow need (bit_and held (own v)))
+          ∙ ap (λ (z : PhysAddr). cond (allow s.needed (bit_and held (own v))) (mark s.write m z.0) m) read.1
+          ∙ ap (λ (z : Path). cond (allow s.needed (bit_and held (own v))) (marks s.write z m) m) (sym on)
+          ∙ sym (after_cond s.write here m (allow s.needed (bit_and held (own v)))
           (record { base = p; last = v; rights = bit_and held (own v); size = n; reads = 4 + 1 - n })
-          (Rights (cond (allow need (own v)) 0 n)) (4 + 1 - n))
-          ∙ ap (after write here m) (sym ended.0),
+          (Rights (cond (allow s.needed (own v)) 0 n)) (4 + 1 - n))
+          ∙ ap (after s.write here m) (sym ended.0),
     )
       where
         on : here ≡ ends (page (this v) p.0)
-        on = found ∙ ap (λ (z : Says). onward z (this v) (λ (table : ℕ). path tell m va (n - 1) table)) says
+        on = found ∙ ap (λ (z : Says). onward z (this v) (λ (table : ℕ). path tell m s.address (n - 1) table)) says
 
     -- what the rest answered, on its way back
     module _ (t : PhysAddr) (says : tell n v ≡ Says.Table t) (o : ℕ) (the_own : o ≡ own v) (w : Walked) (m' : List ℕ)
-        (below : Descends tell va need write (bit_and held o) (n - 1) t m w m') where
-      on : here ≡ next (this v) (path tell m va (n - 1) t.0)
-      on = found ∙ ap (λ (z : Says). onward z (this v) (λ (table : ℕ). path tell m va (n - 1) table)) says
+        (below : Descends tell s (bit_and held o) (n - 1) t m w m') where
+      on : here ≡ next (this v) (path_below tell s m (n - 1) t)
+      on = found ∙ ap (λ (z : Says). onward z (this v) (λ (table : ℕ). path tell m s.address (n - 1) table)) says
 
-      back : walked_below need held (4 - n) here ≡ lift need o n w
+      back : walked_below s.needed held (4 - n) here ≡ lift s.needed o n w
       back =
-          ap (walked_below need held (4 - n)) on
-          ∙ below_next need held n (n - 1) (this v) (path tell m va (n - 1) t.0) (whole n from) most refl
-          ∙ ap (λ (z : ℕ). lift need z n (walked_below need (bit_and held z) (4 - (n - 1)) (path tell m va (n - 1) t.0))) (sym the_own)
-          ∙ ap (lift need o n) (sym below.0)
+          ap (walked_below s.needed held (4 - n)) on
+          ∙ below_next s.needed held n (n - 1) (this v) (path_below tell s m (n - 1) t) (whole n from) most refl
+          ∙ ap (λ (z : ℕ). lift s.needed z n (walked_below s.needed (bit_and held z) (4 - (n - 1)) (path_below tell s m (n - 1) t))) (sym the_own)
+          ∙ ap (lift s.needed o n) (sym below.0)
 
-      pub ret_mapped : (f : Mapping) → w ≡ Ok f → (m'' : List ℕ) → m'' ≡ mark false m' at.0 → Gives (Ok f) m''
+      pub ret_mapped : (f : Mapping) → w ≡ Ok f → (m'' : List ℕ) → m'' ≡ mark false m' at.0 → Descends tell s held n b m (Ok f) m''
       unfolding after marks
       ret_mapped f is_mapped m'' the-mark = (
-        sym (back ∙ ap (lift need o n) is_mapped),
+        sym (back ∙ ap (lift s.needed o n) is_mapped),
         the-mark
-            ∙ ap₂ (mark false) (below.1 ∙ ap (after write (path tell m va (n - 1) t.0) m) is_mapped) (ap (λ (z : PhysAddr). z.0) read.1)
-            ∙ ap (λ (z : Path). marks write z m) (sym on),
+            ∙ ap₂ (mark false) (below.1 ∙ ap (after s.write (path_below tell s m (n - 1) t) m) is_mapped) (ap (λ (z : PhysAddr). z.0) read.1)
+            ∙ ap (λ (z : Path). marks s.write z m) (sym on),
       )
 
-      pub ret_unmapped : (why : Unmapped) → w ≡ Err why → (higher_why : Unmapped) → higher_why ≡ higher need o n why
-          → Gives (Err higher_why) m'
+      pub ret_unmapped : (why : Unmapped) → w ≡ Err why → (higher_why : Unmapped) → higher_why ≡ higher s.needed o n why
+          → Descends tell s held n b m (Err higher_why) m'
       unfolding after
       ret_unmapped why is_unmapped higher_why same = (
-        ap (λ (z : Unmapped). Err z) same ∙ sym (back ∙ ap (lift need o n) is_unmapped),
+        ap (λ (z : Unmapped). Err z) same ∙ sym (back ∙ ap (lift s.needed o n) is_unmapped),
         below.1
-            ∙ ap (after write (path tell m va (n - 1) t.0) m) is_unmapped
-            ∙ after_err write (path tell m va (n - 1) t.0) m why
-            ∙ sym (after_err write here m higher_why),
+            ∙ ap (after s.write (path_below tell s m (n - 1) t) m) is_unmapped
+            ∙ after_err s.write (path_below tell s m (n - 1) t) m why
+            ∙ sym (after_err s.write here m higher_why),
       )

@@ -6,6 +6,7 @@ use Rattle.address.specs.declared.VirtAddr.{VirtAddr}
 use Rattle.address.specs.Address.{index}
 use Rattle.word.specs.Bytes.{load, inside}
 use Rattle.entry.specs.Mark.{mark}
+use Rattle.entry.specs.declared.Says.{Says}
 use Rattle.entry.specs.Masks.{under}
 use Rattle.entry.specs.Rights.{allow, own}
 use Rattle.walk.specs.Answers.{Walked}
@@ -43,14 +44,18 @@ IsEnd s held l entry at base memory answer left =
     (answer ≡ at_page s.needed held l entry base)
     × (left ≡ cond (allow s.needed (bit_and held (own entry))) (mark s.write memory at.0) memory)
 
--- the path of what is sought, from the table at a base
-abbrev pub path_below : Sought → List ℕ → ℕ → PhysAddr → Path
-path_below s memory l base = path (under s.forbidden) memory s.address l base.0
+-- the path of what is sought, from the table at a base, by what each entry tells at its level
+abbrev pub path_below : (ℕ → ℕ → Says) → Sought → List ℕ → ℕ → PhysAddr → Path
+path_below tell s memory l base = path tell memory s.address l base.0
 
 -- an answer and memory after it are those of the walk from the table at a base
+abbrev pub Descends : (ℕ → ℕ → Says) → Sought → ℕ → ℕ → PhysAddr → List ℕ → Walked → List ℕ → Type 0
+Descends tell s held l base memory answer left =
+    (answer ≡ walked_below s.needed held (4 - l) (path_below tell s memory l base)) × (left ≡ after s.write (path_below tell s memory l base) memory answer)
+
+-- the same where an entry tells what it says under the mask of what is sought
 abbrev pub IsDescent : Sought → ℕ → ℕ → PhysAddr → List ℕ → Walked → List ℕ → Type 0
-IsDescent s held l base memory answer left =
-    (answer ≡ walked_below s.needed held (4 - l) (path_below s memory l base)) × (left ≡ after s.write (path_below s memory l base) memory answer)
+IsDescent s held l base memory answer left = Descends (under s.forbidden) s held l base memory answer left
 
 -- the entry of a level in the table at a base, with its address, or the end outside memory
 abbrev pub entry_at : List ℕ → VirtAddr → ℕ → PhysAddr → Result (PhysAddr × ℕ) Unmapped
