@@ -7,7 +7,7 @@ use std::io;
 use std::io::Write;
 use word::bytes::{load64, store64};
 
-// Prints what an entry says at a level, with an M and NXE. Here and below a piece of text is written at once, words and what stands round them.
+// Prints what an entry says at a level, with an M and NXE. Each piece of text is one write, with what stands round its words.
 fn at(out: &mut impl Write, value: u64, level: u64, width: u64, nxe: bool) -> io::Result<()> {
     let entry = Entry { value, level };
     let clear = if nxe { "" } else { ", NXE clear" };
