@@ -9,6 +9,6 @@ use Rattle.play.specs.declared.gathered.Gathered.{Gathered}
 abbrev pub line : ℕ → Numbers → List ℕ
 line number numbers = decimal number ++ codes " " ++ text numbers ++ codes "\n"
 
--- the bytes given to a gathering writer: those that its output holds, and then as many of its text as are used
+-- the bytes given to a gathering writer, where those of its output are known: they, and then as many of its text as are used
 abbrev pub given : {W : Type 0} → (W → Option (List ℕ)) → Gathered W → Option (List ℕ)
 given contents g = append_known (contents g.output) (take g.used g.text)
